@@ -1,0 +1,15 @@
+pub mod Booleans
+pub mod Lists
+pub mod BigEndian
+pub mod First
+pub mod Passed
+pub mod Given
+pub mod Course
+pub mod Numbers
+pub mod Positions
+pub mod Scatter
+pub mod Read
+pub mod Write
+pub mod Punch
+pub mod Segment
+pub mod Kept

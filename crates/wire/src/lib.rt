@@ -1,0 +1,81 @@
+// Big-endian numbers out of and into byte slices, of 16, 32 and 64 bits, over one loop for any width.
+ghost use mathlib.Core.Path.{_≡_};
+ghost use Prim.Native.Nat.{_+_, _<_, _≤_, _^_};
+ghost use lib.ListN.{length};
+ghost use Rattle.rules.specs.Bytes.{field, laid, toBe};
+
+// a byte as a wider number
+fn wide(x: u8) -> u64
+    ensures { λ r. ⌜ (r ≡ x) × (r < 256) ⌝ }
+{
+    x as u64
+}
+
+fn get(s: &[u8], at: usize, n: usize) -> u64
+    requires { ⌜ (n ≤ 8) × (at + n ≤ length (now s)) ⌝ }
+    ensures { λ r. ⌜ (r ≡ field at n (now (s .entry))) × (r < 256 ^ n) ⌝ }
+{
+    let mut x: u64 = 0;
+    let mut i = 0;
+    while i < n {
+        x = x * 256 + wide(s[at + i]);
+        i += 1;
+    }
+    x
+}
+
+pub fn get16(s: &[u8], at: usize) -> u16
+    requires { ⌜ at + 2 ≤ length (now s) ⌝ }
+    ensures { λ r. ⌜ r ≡ field at 2 (now (s .entry)) ⌝ }
+{
+    get(s, at, 2) as u16
+}
+
+pub fn get32(s: &[u8], at: usize) -> u32
+    requires { ⌜ at + 4 ≤ length (now s) ⌝ }
+    ensures { λ r. ⌜ r ≡ field at 4 (now (s .entry)) ⌝ }
+{
+    get(s, at, 4) as u32
+}
+
+pub fn get64(s: &[u8], at: usize) -> u64
+    requires { ⌜ at + 8 ≤ length (now s) ⌝ }
+    ensures { λ r. ⌜ r ≡ field at 8 (now (s .entry)) ⌝ }
+{
+    get(s, at, 8)
+}
+
+// From the last byte to the first: what is left of the number is always the bytes still to come.
+fn put(d: &mut [u8], at: usize, n: usize, x: u64)
+    requires { ⌜ at + n ≤ length (now d) ⌝ }
+    ensures { λ _. ⌜ now (d .exit) ≡ laid at (toBe n x) (now (d .entry)) ⌝ }
+{
+    let mut y = x;
+    let mut i = n;
+    while 0 < i {
+        i -= 1;
+        d[at + i] = (y % 256) as u8;
+        y = y / 256;
+    }
+}
+
+pub fn put16(d: &mut [u8], at: usize, x: u16)
+    requires { ⌜ at + 2 ≤ length (now d) ⌝ }
+    ensures { λ _. ⌜ now (d .exit) ≡ laid at (toBe 2 x) (now (d .entry)) ⌝ }
+{
+    put(d, at, 2, x as u64);
+}
+
+pub fn put32(d: &mut [u8], at: usize, x: u32)
+    requires { ⌜ at + 4 ≤ length (now d) ⌝ }
+    ensures { λ _. ⌜ now (d .exit) ≡ laid at (toBe 4 x) (now (d .entry)) ⌝ }
+{
+    put(d, at, 4, x as u64);
+}
+
+pub fn put64(d: &mut [u8], at: usize, x: u64)
+    requires { ⌜ at + 8 ≤ length (now d) ⌝ }
+    ensures { λ _. ⌜ now (d .exit) ≡ laid at (toBe 8 x) (now (d .entry)) ⌝ }
+{
+    put(d, at, 8, x);
+}
