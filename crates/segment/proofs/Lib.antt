@@ -1,0 +1,4 @@
+pub mod Blank
+pub mod Faults
+pub mod Standing
+pub mod Walking
