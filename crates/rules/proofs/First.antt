@@ -76,3 +76,16 @@ pub gives-nothing : {X : Type 0} (ts : List (Test X)) → NoneHolds ts → first
 unfolding firstOf
 gives-nothing [] f = refl
 gives-nothing (t ∷ ts) f = rw (f 0) (gives-nothing ts (λ j. f (suc j)))
+
+-- a test in front that holds gives, and one that fails is passed over
+pub hit : {X : Type 0} (t : Test X) (ts : List (Test X)) → t .holds ≡ true → firstOf (t ∷ ts) ≡ some (t .gives)
+unfolding firstOf
+hit t ts e = rw e
+
+pub skip : {X : Type 0} (t : Test X) (ts : List (Test X)) → t .holds ≡ false → firstOf (t ∷ ts) ≡ firstOf ts
+unfolding firstOf
+skip t ts e = rw e
+
+pub none-left : {X : Type 0} → firstOf {X = X} [] ≡ none
+unfolding firstOf
+none-left = refl
