@@ -7,14 +7,14 @@ use Rattle.rules.specs.declared.Range.{Range}
 use Rattle.rules.specs.declared.Verb.{Verb}
 use Rattle.rules.specs.Bytes.{any, all}
 use Rattle.rules.specs.Tests.{test, firstOf, isSome}
-use Rattle.rules.specs.Command.{Command, verb}
+use Rattle.rules.specs.Command.{Command, partitionOf, objectOf, verb}
 use Rattle.rules.specs.Capability.{matches, inside}
 use Rattle.rules.specs.Reading.{Held, ranges, capabilities}
 use Rattle.rules.specs.Header.{readable}
 
 -- a capability of a command matches
 unfoldable pub fits : Verb → Command → Held → Bool
-fits v c k = matches v (c .cdb) (c .on) (k .bytes)
+fits v c k = matches v (partitionOf (c .cdb)) (objectOf (c .cdb)) (c .on) (k .bytes)
 
 -- it admits a range: it matches, and the range lies inside
 unfoldable pub admits : Verb → Command → Range → Held → Bool

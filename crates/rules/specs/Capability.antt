@@ -7,7 +7,6 @@ use Rattle.rules.specs.declared.Range.{Range}
 use Rattle.rules.specs.declared.Verb.{Verb}
 use Rattle.rules.specs.declared.Verb.the-variants.{Read, Write, Clear, Punch}
 use Rattle.rules.specs.Bytes.{Bytes, byte, field}
-use Rattle.rules.specs.Command.{partitionOf, objectOf}
 
 -- permissions, byte 49: 80h READ for READ, 40h WRITE for the other three
 unfoldable pub permits : Verb → Bytes → Bool
@@ -34,19 +33,25 @@ allowedLength k = field 88 8 k
 abbrev pub allowedStart : Bytes → ℕ
 allowedStart k = field 96 8 k
 
--- Object type is 80h; descriptor type, the high four bits of byte 55, is 1; the permission bit is set; allowed partition and object
--- are not zero and equal the CDB's; the tag is zero or the record's; its epoch or the record's is zero, or the two are equal.
-unfoldable pub matches : Verb → (cdb : Bytes) → Record → (capability : Bytes) → Bool
-matches v cdb r k =
-    eqb (byte 48 k) 0x80
-    && eqb (byte 55 k / 16) 1
-    && permits v k
-    && not (eqb (allowedPartition k) 0)
-    && not (eqb (allowedObject k) 0)
-    && eqb (allowedPartition k) (partitionOf cdb)
-    && eqb (allowedObject k) (objectOf cdb)
-    && (eqb (allowedTag k) 0 || eqb (allowedTag k) (r .tag))
-    && (eqb (allowedEpoch k) 0 || eqb (r .epoch) 0 || eqb (allowedEpoch k) (r .epoch))
+-- object type is 80h; descriptor type, the high four bits of byte 55, is 1
+unfoldable pub forUserObject : (capability : Bytes) → Bool
+forUserObject k = eqb (byte 48 k) 0x80 && eqb (byte 55 k / 16) 1
+
+-- allowed partition and object are not zero and equal the CDB's
+unfoldable pub names : (partition object : ℕ) → (capability : Bytes) → Bool
+names p o k = not (eqb (allowedPartition k) 0) && not (eqb (allowedObject k) 0) && eqb (allowedPartition k) p && eqb (allowedObject k) o
+
+-- its tag is zero or equals the record's
+unfoldable pub tagged : Record → (capability : Bytes) → Bool
+tagged r k = eqb (allowedTag k) 0 || eqb (allowedTag k) (r .tag)
+
+-- its epoch or the record's is zero, or the two are equal
+unfoldable pub current : Record → (capability : Bytes) → Bool
+current r k = eqb (allowedEpoch k) 0 || eqb (r .epoch) 0 || eqb (allowedEpoch k) (r .epoch)
+
+-- a capability matches a verb and the CDB's IDs under a record
+unfoldable pub matches : Verb → (partition object : ℕ) → Record → (capability : Bytes) → Bool
+matches v p o r k = forUserObject k && permits v k && names p o k && tagged r k && current r k
 
 -- one past the last position that a capability allows, a whole number without wrap; all ones is every byte up to FFFF FFFF FFFF FFFFh
 unfoldable pub bound : Bytes → ℕ

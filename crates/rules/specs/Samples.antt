@@ -91,7 +91,7 @@ unfolding text Bytes.be Bytes.field Bytes.toBe Bytes.blank Bytes.laid Bytes.any 
     Command.soleRange Segment.kindAt Segment.padAt Segment.sizeAt Segment.dataAt Segment.next Segment.faults Segment.unless Segment.entriesHere
     Segment.extensionsHere Segment.here Segment.once Segment.follow Segment.walkFrom Segment.walk Segment.entryAt Segment.entriesFrom
     Segment.placesFrom Ranges.total Ranges.meet Ranges.overlapping Ranges.reach Reading.walked Reading.found Reading.listed Reading.ranges
-    Reading.solo Reading.extension Reading.capabilities Capability.permits Capability.matches Capability.bound Capability.inside Capability.has
+    Reading.solo Reading.extension Reading.capabilities Capability.permits Capability.forUserObject Capability.names Capability.tagged Capability.current Capability.matches Capability.bound Capability.inside Capability.has
     Header.cdbMalformed Header.actionUnknown Header.otherObject Header.continued Header.continuationWrong Header.segmentHeaderWrong
     Header.descriptorFaulty Header.listForbidden Header.header Header.readable Admission.fits Admission.admits Admission.admitting Admission.admitted
     Admission.admittingFor Admission.question Rows.objectUnfit Rows.listWithStart Rows.listFault Rows.notAdmitted Rows.startsBeyond Rows.bufferShort
