@@ -13,3 +13,10 @@ pub mod Write
 pub mod Punch
 pub mod Segment
 pub mod Kept
+pub mod Members
+pub mod Admitted
+pub mod Effect
+pub mod Alike
+pub mod Beside
+pub mod Isolation
+pub mod Needed

@@ -17,3 +17,4 @@ pub mod Samples
 pub mod Marked
 pub mod Full
 pub mod Edges
+pub mod Needed

@@ -84,20 +84,27 @@ may v who r xs p = any (λ (x : Sent). is who (x .by) && lets v r p x) xs
 unfoldable pub punches : Sent → Bool
 punches x = eqb (action (x .cdb)) 0x8884
 
--- The sessions are xs and ys. Both start with the record r, and with the slices a and b, which have one size.
-pub Isolation : Type 0
-Isolation =
-    (r : Record) (a b : Bytes) (xs ys : List Sent)
-    -- the first caller sends the same
-    → sends xs ≡ sends ys
-    -- nobody sends PUNCH
-    → T (not (any punches (xs ++ ys)))
-    -- no position that the second may write is one that the first may read
-    → ((p : ℕ) → T (may Write second r (xs ++ ys) p) → T (may Read first r (xs ++ ys) p) → ⊥)
-    -- the starts agree where the first may read
-    → length a ≡ length b
-    → ((p : ℕ) → T (may Read first r (xs ++ ys) p) → byte p a ≡ byte p b)
-    -- the logical lengths agree before each of the first's commands
-    → lengths (record { on = r; slice = a }) xs ≡ lengths (record { on = r; slice = b }) ys
-    -- then the first is answered the same, data included
-    → replies (record { on = r; slice = a }) xs ≡ replies (record { on = r; slice = b }) ys
+-- What demand 3 supposes of two sessions, xs and ys. Both start with the record r, and with the slices a and b.
+pub data Premise : Type 0 where
+  same-commands no-punch apart same-size same-bytes same-lengths : Premise
+
+abbrev pub Holds : Premise → Record → (a b : Bytes) → (xs ys : List Sent) → Type 0
+-- the first caller sends the same
+Holds same-commands r a b xs ys = sends xs ≡ sends ys
+-- nobody sends PUNCH
+Holds no-punch r a b xs ys = T (not (any punches (xs ++ ys)))
+-- no position that the second may write is one that the first may read
+Holds apart r a b xs ys = (p : ℕ) → T (may Write second r (xs ++ ys) p) → T (may Read first r (xs ++ ys) p) → ⊥
+-- the slices have one size,
+Holds same-size r a b xs ys = length a ≡ length b
+-- and agree where the first may read
+Holds same-bytes r a b xs ys = (p : ℕ) → T (may Read first r (xs ++ ys) p) → byte p a ≡ byte p b
+-- the logical lengths agree before each of the first's commands
+Holds same-lengths r a b xs ys = lengths (record { on = r; slice = a }) xs ≡ lengths (record { on = r; slice = b }) ys
+
+-- the first is answered the same, data included
+abbrev pub SameReplies : Record → (a b : Bytes) → (xs ys : List Sent) → Type 0
+SameReplies r a b xs ys = replies (record { on = r; slice = a }) xs ≡ replies (record { on = r; slice = b }) ys
+
+unfoldable pub Isolation : Type 0
+Isolation = (r : Record) (a b : Bytes) (xs ys : List Sent) → ((n : Premise) → Holds n r a b xs ys) → SameReplies r a b xs ys
