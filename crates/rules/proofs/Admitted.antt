@@ -17,7 +17,7 @@ use Rattle.rules.specs.Bytes.{Bytes, any}
 use Rattle.rules.specs.Tests.{firstOf}
 use Rattle.rules.specs.Command.{Command, verb, segment}
 use Rattle.rules.specs.Ranges.{end, covered}
-use Rattle.rules.specs.Capability.{permits, matches, allowedStart, bound, inside, has}
+use Rattle.rules.specs.Capability.{permits, tagged, current, matches, allowedStart, bound, inside, has}
 use Rattle.rules.specs.Reading.{Held, walked, found, listed, ranges, solo, extension, extensionsOf, capabilities}
 use Rattle.rules.specs.Header.{cdbMalformed, actionUnknown, otherObject, continued, continuationWrong, segmentHeaderWrong, descriptorFaulty, listForbidden, header, readable}
 use Rattle.rules.specs.Admission.{fits, admits, admitting, admitted}
@@ -71,5 +71,5 @@ held-alike x r r′ = ap (λ (ks : List Held). solo (meets x r) ∷ ks) (go (fou
 -- logical length is nothing that rows 2 to 8 or a capability look at
 pub length-aside : (v : Verb) (r : Record) (n p : ℕ) (x : Sent) → lets v (lengthened r n) p x ≡ lets v r p x
 unfolding lets meets readable header cdbMalformed actionUnknown otherObject continued continuationWrong segmentHeaderWrong descriptorFaulty
-    listForbidden verb segment walked found listed fits matches
+    listForbidden verb segment walked found listed fits matches tagged current
 length-aside v r n p x = rw (held-alike x (lengthened r n) r)
