@@ -22,13 +22,15 @@ use Rattle.rules.specs.Command.{Command, action, continuation, partitionOf, obj
 use Rattle.rules.specs.Segment.{walk, nothing}
 use Rattle.rules.specs.Reading.{walked, found, listed, present}
 use Rattle.rules.specs.Header.{cdbMalformed, actionUnknown, otherObject, continued, continuationWrong, segmentHeaderWrong, descriptorFaulty, listForbidden, header}
+use Rattle.rules.proofs.Passed.{header-passed}
+use Rattle.rules.proofs.Course.{has-verb}
 use Rattle.rules.proofs.First.{hit, skip, none-left}
 use Rattle.rules.proofs.Booleans.{or-false-parts}
 use Rattle.header.specs.declared.Named.{Named}
 use Rattle.header.specs.declared.Named.the-variants.{Known, Unknown}
 use Rattle.header.specs.declared.Parsed.{Parsed}
 use Rattle.header.specs.declared.Reading.the-variants.{Unreadable, Readable}
-use Rattle.header.specs.Reading.{named, saidBy, readingOf, Begun, Opened}
+use Rattle.header.specs.Reading.{named, saidBy, settled, readingOf, Begun, Opened}
 
 -- a row that refuses, and no row that does
 pub refused-by : (c : Command) (w : Refusal) → firstOf (header c) ≡ some w → Unreadable w ≡ readingOf c
@@ -270,3 +272,55 @@ pub said-read : (cdb : Bytes) (v : Verb) (partition object start size segment : 
     → record { verb = v; partition = partition; object = object; start = start; size = size; segment = segment; found = nothing } ≡ saidBy v cdb nothing
 unfolding saidBy partitionOf objectOf startOf lengthOf continuation
 said-read cdb v p o s n k e1 e2 e3 e4 e5 = rw (e1, e2, e3, e4, e5)
+
+-- ---- what an answer says of the command
+pub record Says (c : Command) (p : Parsed) : Type 0 where
+  pub passes : firstOf (header c) ≡ none
+  pub verb : verb c ≡ some (p .verb)
+  pub said : p ≡ saidBy (p .verb) (c .cdb) (found c)
+
+says-of : (c : Command) (p : Parsed) (v : Verb) → firstOf (header c) ≡ none → verb c ≡ some v → saidBy v (c .cdb) (found c) ≡ p → Says c p
+unfolding saidBy
+says-of c p v h k s =
+    let same : v ≡ p .verb = ap (λ (q : Parsed). q .verb) s in
+    record { passes = h; verb = k ∙ ap some same; said = sym s ∙ ap (λ (u : Verb). saidBy u (c .cdb) (found c)) same }
+
+pub says : (c : Command) (p : Parsed) → readingOf c ≡ Readable p → Says c p
+unfolding readingOf
+says c p e = go (firstOf (header c)) refl (verb c) refl e
+  where
+    go : (o : Option Refusal) → firstOf (header c) ≡ o → (u : Option Verb) → verb c ≡ u → settled o u c ≡ Readable p → Says c p
+    go (some w) h u k q = let z : _≡_ {A = ℕ} 0 1 = cc in absurd (omega arith)
+    go none h none k q = let z : _≡_ {A = ℕ} 0 1 = cc in absurd (omega arith)
+    go none h (some v) k q = let s : saidBy v (c .cdb) (found c) ≡ p = cc in says-of c p v h k s
+
+pub unreadable : (c : Command) (w : Refusal) → readingOf c ≡ Unreadable w → firstOf (header c) ≡ some w
+unfolding readingOf
+unreadable c w e = go (firstOf (header c)) refl (verb c) refl e
+  where
+    go : (o : Option Refusal) → firstOf (header c) ≡ o → (u : Option Verb) → verb c ≡ u → settled o u c ≡ Unreadable w → firstOf (header c) ≡ some w
+    go (some k) h u v q = let s : k ≡ w = cc in h ∙ ap some s
+    go none h (some k) v q = let z : _≡_ {A = ℕ} 0 1 = cc in absurd (omega arith)
+    go none h none v q =
+        let k = has-verb c (header-passed c h .action) in
+        let n : some (k .0) ≡ none = sym (k .1) ∙ v in
+        let z : _≡_ {A = ℕ} 0 1 = cc in
+        absurd (omega arith)
+
+-- the part of Data-Out that is the segment of a command that was read
+pub says-segment : (c : Command) (p : Parsed) → Says c p → (take (p .segment - 0) (c .out) ≡ segment c) × (p .segment ≤ length (c .out))
+unfolding saidBy segment continuationWrong continued
+says-segment c p s = (rw (sub-zero, size), go (eqb (continuation (c .cdb)) 0) refl (header-passed c (s .passes) .continuation))
+  where
+    size : p .segment ≡ continuation (c .cdb)
+    size = ap (λ (q : Parsed). q .segment) (s .said)
+
+    go : (b : Bool) → eqb (continuation (c .cdb)) 0 ≡ b
+        → (not b && (ltb (continuation (c .cdb)) 40 || ltb 2048 (continuation (c .cdb)) || ltb (length (c .out)) (continuation (c .cdb)))) ≡ false
+        → p .segment ≤ length (c .out)
+    go true h q = let z : continuation (c .cdb) ≡ 0 = eqb-true _ _ h in omega (arith, size, z)
+    go false h q =
+        let l : continuation (c .cdb) ≤ length (c .out) =
+        ltb-false _ _ (or-false-parts (ltb (continuation (c .cdb)) 40 || ltb 2048 (continuation (c .cdb))) _ q .1)
+        in
+        omega (arith, size, l)

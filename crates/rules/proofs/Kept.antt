@@ -1,5 +1,5 @@
 -- Law 6: what every call, whatever it ends with, leaves of the record and of the slice's size.
-use Prim.Native.Nat.{ℕ, _+_, _≤_, _<_}
+use Prim.Native.Nat.{_≤_, _<_}
 use mathlib.Core.Path.{_≡_, refl, sym, ap, _∙_}
 use mathlib.Core.Logic.{⊎-elim}
 use mathlib.Core.Option.{none, some}
@@ -15,12 +15,12 @@ use Rattle.rules.specs.Rows.{raised, refusal}
 use Rattle.rules.specs.Answer.{Answered, answered, lengthened, refused}
 use Rattle.rules.proofs.Booleans.{lt-or-le}
 use Rattle.rules.proofs.Passed.{passed}
-use Rattle.rules.proofs.Given.{roomy, held}
+use Rattle.rules.proofs.Given.{roomy}
 use Rattle.rules.proofs.Course.{roomOf, Course, refusing, carrying, course}
-use Rattle.rules.proofs.Numbers.{Unchanged, refused-unchanged}
-use Rattle.rules.proofs.Read.{WasRead, read}
+use Rattle.rules.proofs.Numbers.{refused-unchanged}
+use Rattle.rules.proofs.Read.{read}
 use Rattle.rules.proofs.Write.{Wrote, write, clear}
-use Rattle.rules.proofs.Punch.{Punched, punch}
+use Rattle.rules.proofs.Punch.{punch}
 
 pub record Kept (c : Command) (s : Bytes) (a : Answered) : Type 0 where
   -- of the record only logical length changes

@@ -73,3 +73,16 @@ passed c m e =
       buffer = r13 .0;
       room = r14 .0;
     }
+
+-- the same of rows 2 to 8 alone
+pub header-passed : (c : Command) → firstOf (header c) ≡ none → Readable c
+unfolding header
+header-passed c e =
+    let r2 = skips _ _ e in
+    let r3 = skips _ _ (r2 .1) in
+    let r4 = skips _ _ (r3 .1) in
+    let r5 = skips _ _ (r4 .1) in
+    let r6 = skips _ _ (r5 .1) in
+    let r7 = skips _ _ (r6 .1) in
+    let r8 = skips _ _ (r7 .1) in
+    record { cdb = r2 .0; action = r3 .0; ids = r4 .0; continuation = r5 .0; segment = r6 .0; walk = r7 .0; list = r8 .0 }

@@ -1,0 +1,65 @@
+use borrow.Author.Needs.{needs}
+use native.Mathlib.Omega.{arith}
+use Rattle.admission.specs.Places.{admitsIn, firstFrom}
+use Rattle.admission.proofs.Search.{First, first-begun, first-hit, first-on, first-none, piece-length}
+use Rattle.admission.proofs.first_extension.Statement.{statement}
+use Rattle.admission.proofs.first_extension.Tie as tie
+
+abbrev Inv-loop : tie.InvT-loop
+Inv-loop segment said on g from₀ left₀ from left = First (admitsIn said on g) segment from₀ left₀ from left
+
+abbrev μ-loop : tie.MeasureT-loop
+μ-loop segment said on g from₀ left₀ from left = left
+
+loop-holds : tie.Need-loop-holds Inv-loop μ-loop
+loop-holds c = let l = c .before .before .pre .inside in first-begun _ _ _ _ (omega arith)
+
+add-to : tie.Need-add-to Inv-loop μ-loop
+add-to c = search needs
+
+sub-admits : tie.Need-sub-admits Inv-loop μ-loop
+sub-admits c = search needs
+
+part-admits-start : tie.Need-part-admits-start Inv-loop μ-loop
+part-admits-start c = search needs
+
+part-admits-end : tie.Need-part-admits-end Inv-loop μ-loop
+part-admits-end c = search needs
+
+admits-requires : tie.Need-admits-requires Inv-loop μ-loop
+admits-requires c κs = let i = c .before .before .loop .inv .inside in piece-length _ (c .before .before .loop .from) (omega arith)
+
+returns : tie.Need-returns Inv-loop μ-loop
+unfolding firstFrom
+returns c = first-hit _ _ _ _ _ _ (c .before .before .before .before .loop .inv) (c .before .before .before .loop-test .taken) _ (c .before .admits .ensures) (c .if1 .taken)
+
+sub-left : tie.Need-sub-left Inv-loop μ-loop
+sub-left c = search needs
+
+loop-less : tie.Need-loop-less Inv-loop μ-loop
+loop-less c = search needs
+
+loop-again : tie.Need-loop-again Inv-loop μ-loop
+loop-again c = first-on _ _ _ _ _ _ (c .before .before .before .before .loop .inv) (c .before .before .before .loop-test .taken) _ (c .before .admits .ensures) (c .if1 .left)
+
+returns-2 : tie.Need-returns-2 Inv-loop μ-loop
+unfolding firstFrom
+returns-2 c = first-none _ _ _ _ _ _ (c .before .loop .inv) (c .loop-test .left)
+
+pub first-extension-spec : {M : Type 1} → statement M
+first-extension-spec =
+    tie.close
+    (tie.spec
+    Inv-loop
+    μ-loop
+    loop-holds
+    add-to
+    sub-admits
+    part-admits-start
+    part-admits-end
+    admits-requires
+    returns
+    sub-left
+    loop-less
+    loop-again
+    returns-2)
