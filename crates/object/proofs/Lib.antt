@@ -1,0 +1,6 @@
+pub mod Laying
+pub mod Within
+pub mod Entries
+pub mod Gathering
+pub mod Scattering
+pub mod Sole
