@@ -13,3 +13,4 @@ pub mod Write
 pub mod Punch
 pub mod Segment
 pub mod Kept
+pub mod Paired
