@@ -20,3 +20,4 @@ pub mod Alike
 pub mod Beside
 pub mod Isolation
 pub mod Needed
+pub mod Paired
