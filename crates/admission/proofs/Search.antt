@@ -10,6 +10,7 @@ use Rattle.rules.specs.declared.Record.{Record}
 use Rattle.rules.specs.declared.Range.{Range}
 use Rattle.rules.specs.Bytes.{Bytes, part, all}
 use Rattle.rules.specs.Segment.{placesFrom, entryAt, entriesFrom}
+use Rattle.rules.proofs.Entries.{first-entry, no-entry}
 use Rattle.header.specs.declared.Parsed.{Parsed}
 use Rattle.admission.specs.declared.Place.the-variants.{Nowhere, InOut}
 use Rattle.admission.specs.Places.{anyAt, firstAt, firstIn, somewhere}
@@ -80,16 +81,6 @@ module _ (t : Bytes → Bool) (s : Bytes) (start n : ℕ) where
   first-none from left i h = sym (i .rest ∙ rw (none-left left from h))
 
 -- ---- entries
-peel-entry : (s : Bytes) (left from : ℕ) → 0 < left → entriesFrom left s from ≡ entryAt s from ∷ entriesFrom (left - 1) s (from + 16)
-unfolding entriesFrom
-peel-entry s zero from h = absurd (not-suc-le-zero h)
-peel-entry s (suc n) from h = let e : suc n - 1 ≡ n = omega arith in rw e
-
-no-entry : (s : Bytes) (left from : ℕ) → left ≤ 0 → entriesFrom left s from ≡ []
-unfolding entriesFrom
-no-entry s zero from h = refl
-no-entry s (suc n) from h = absurd (not-suc-le-zero h)
-
 module _ (cdb s : Bytes) (p : Parsed) (on : Record) (start n : ℕ) where
   pub record Each (from left : ℕ) : Type 0 where
     pub rest : all (λ (g : Range). somewhere (firstIn cdb s p on g)) (entriesFrom n s start) ≡ all (λ (g : Range). somewhere (firstIn cdb s p on g)) (entriesFrom left s from)
@@ -102,7 +93,7 @@ module _ (cdb s : Bytes) (p : Parsed) (on : Record) (start n : ℕ) where
       (e : r ≡ somewhere (firstIn cdb s p on g)) where
     each-split : all (λ (g : Range). somewhere (firstIn cdb s p on g)) (entriesFrom n s start) ≡ (r && all (λ (g : Range). somewhere (firstIn cdb s p on g)) (entriesFrom (left - 1) s (from + 16)))
     unfolding all
-    each-split = i .rest ∙ rw (peel-entry s left from more, e, k)
+    each-split = i .rest ∙ rw (first-entry s left from more, e, k)
 
     pub each-fails : r ≡ false → false ≡ all (λ (g : Range). somewhere (firstIn cdb s p on g)) (entriesFrom n s start)
     each-fails h = sym (each-split ∙ rw h)

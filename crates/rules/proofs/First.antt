@@ -5,7 +5,7 @@ use native.Mathlib.Nat.{not-suc-le-zero, le-of-suc-le-suc}
 use mathlib.Core.Path.{_≡_, refl, sym}
 use mathlib.Core.Bool.{Bool, true, false, cond}
 use mathlib.Core.Option.{Option, none, some}
-use mathlib.Core.List.{List, [], _∷_, map}
+use mathlib.Core.List.{List, [], _∷_, _++_, map}
 use lib.ListN.{getD, getElem?}
 use Rattle.rules.specs.Tests.{Test, firstOf}
 
@@ -89,3 +89,24 @@ skip t ts e = rw e
 pub none-left : {X : Type 0} → firstOf {X = X} [] ≡ none
 unfolding firstOf
 none-left = refl
+
+-- two tables, one behind the other
+pub ahead : {X : Type 0} (ts us : List (Test X)) (x : X) → firstOf ts ≡ some x → firstOf (ts ++ us) ≡ some x
+unfolding firstOf
+ahead [] us x e = absurd (some-none (sym e))
+ahead (t ∷ ts) us x e = go (t .holds) e (ahead ts us x)
+  where
+    go : (b : Bool) → cond b (some (t .gives)) (firstOf ts) ≡ some x → (firstOf ts ≡ some x → firstOf (ts ++ us) ≡ some x)
+        → cond b (some (t .gives)) (firstOf (ts ++ us)) ≡ some x
+    go true q r = q
+    go false q r = r q
+
+pub behind : {X : Type 0} (ts us : List (Test X)) → firstOf ts ≡ none → firstOf (ts ++ us) ≡ firstOf us
+unfolding firstOf
+behind [] us e = refl
+behind (t ∷ ts) us e = go (t .holds) e (behind ts us)
+  where
+    go : (b : Bool) → cond b (some (t .gives)) (firstOf ts) ≡ none → (firstOf ts ≡ none → firstOf (ts ++ us) ≡ firstOf us)
+        → cond b (some (t .gives)) (firstOf (ts ++ us)) ≡ firstOf us
+    go true q r = absurd (some-none q)
+    go false q r = r q

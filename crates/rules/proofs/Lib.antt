@@ -12,6 +12,7 @@ pub mod Read
 pub mod Write
 pub mod Punch
 pub mod Segment
+pub mod Entries
 pub mod Kept
 pub mod Members
 pub mod Admitted

@@ -6,9 +6,7 @@ use mathlib.Core.Option.{Option, none, some}
 use mathlib.Core.Bool.{true}
 use mathlib.Core.List.{List, [], _∷_, _++_, map}
 use lib.ListN.{length}
-use Rattle.rules.specs.declared.Range.{Range}
 use Rattle.rules.specs.Bytes.{Bytes, zeros, toBe, laid}
-use Rattle.rules.specs.Command.{Command}
 use Rattle.rules.specs.Reading.{Lent, inCdb, inOut, Held}
 use Rattle.rules.specs.Admission.{question}
 use Rattle.rules.specs.Writer.{Request, cdbFor, segmentFor}

@@ -1,0 +1,5 @@
+pub mod Loading
+pub mod Entrywise
+pub mod Spots
+pub mod Verbwise
+pub mod Table
