@@ -14,3 +14,6 @@ pub mod Punch
 pub mod Segment
 pub mod Kept
 pub mod Paired
+pub mod Laying
+pub mod Spelled
+pub mod Accepted
