@@ -1,19 +1,33 @@
 -- What is known of a request that the writer doesn't refuse.
 use Prim.Native.Nat.{ℕ, _%_, _^_, _≤_, _<_}
-use mathlib.Core.Path.{_≡_}
-use mathlib.Core.Bool.{Bool, true, false, _&&_, _||_, not}
-use mathlib.Core.Option.{none}
+use mathlib.Core.Path.{_≡_, refl}
+use mathlib.Core.Bool.{Bool, true, false, cond, _&&_, _||_, not, false≢true}
+use mathlib.Core.Option.{none, some}
 use native.Mathlib.Omega.{arith}
 use lib.ListN.{length}
 use lib.Dec.{eqb, ltb}
 use borrow.Author.Tests.{ltb-false, leb-false, eqb-true, eqb-false, not-false}
 use Rattle.rules.specs.declared.Verb.{Verb}
+use Rattle.rules.specs.declared.Verb.the-variants.{Read, Write, Clear, Punch}
 use Rattle.rules.specs.Tests.{firstOf, isSome}
 use Rattle.rules.specs.Command.{verbOf, asks, isWrite, isClear, isPunch}
 use Rattle.rules.specs.Ranges.{total, overlapping}
 use Rattle.rules.specs.Writer.{Request, entries, segmentFor, refusals}
 use Rattle.rules.proofs.Booleans.{or-false-parts}
 use Rattle.rules.proofs.Passed.{skips}
+
+-- an action that has a verb fits its field
+pub fits-field : (a : ℕ) → isSome (verbOf a) ≡ true → a < 65536
+unfolding verbOf firstOf
+fits-field a e = go (eqb a 0x8885) (eqb a 0x8886) (eqb a 0x8889) (eqb a 0x8884) refl refl refl refl e
+  where
+    go : (r w c p : Bool) → eqb a 0x8885 ≡ r → eqb a 0x8886 ≡ w → eqb a 0x8889 ≡ c → eqb a 0x8884 ≡ p
+        → isSome (cond r (some Read) (cond w (some Write) (cond c (some Clear) (cond p (some Punch) none)))) ≡ true → a < 65536
+    go true w c p e f g h k = omega (arith, eqb-true a 0x8885 e)
+    go false true c p e f g h k = omega (arith, eqb-true a 0x8886 f)
+    go false false true p e f g h k = omega (arith, eqb-true a 0x8889 g)
+    go false false false true e f g h k = omega (arith, eqb-true a 0x8884 h)
+    go false false false false e f g h k = absurd (false≢true k)
 
 pub record Accepted (q : Request) : Type 0 where
   pub known : isSome (verbOf (q .action)) ≡ true
@@ -71,3 +85,7 @@ accepted q c s e =
       ltb-false _ _ (rooms .0),
       ltb-false _ _ (rooms .1),
     )
+
+-- there is one capability, the CDB's, at least
+pub one-given : {q : Request} → Accepted q → 104 ≤ length (q .capabilities)
+one-given a = omega (arith, a .given, a .whole)

@@ -1,16 +1,15 @@
 -- The answer put together: which refusal comes first, and that the pieces are the CDB and the segment of the book.
 use Prim.Native.Nat.{ℕ, _%_, _≤_, _<_}
 use mathlib.Core.Path.{_≡_, refl, ap, sym, _∙_}
-use mathlib.Core.Bool.{Bool, true, false, cond, _||_, not, or-true, false≢true}
+use mathlib.Core.Bool.{Bool, true, false, cond, _||_, not, or-true}
 use mathlib.Core.Option.{Option, none, some}
 use mathlib.Core.List.{List, [], _∷_, _++_, append-assoc}
 use native.Mathlib.Nat.{le-refl}
 use native.Mathlib.Omega.{arith}
 use lib.ListN.{length, take}
 use lib.Dec.{eqb, ltb}
-use borrow.Author.Tests.{lt-ltb, le-ltb, not-true, not-false, eqb-true}
+use borrow.Author.Tests.{lt-ltb, le-ltb, not-true, not-false}
 use Rattle.rules.specs.Bytes.{Bytes, zeros, toBe, laid}
-use Rattle.rules.specs.declared.Verb.the-variants.{Read, Write, Clear, Punch}
 use Rattle.rules.specs.Tests.{Test, test, firstOf, isSome}
 use Rattle.rules.specs.Command.{verbOf}
 use Rattle.rules.specs.Writer.{Request, entries, extended, lengthFor, segmentFor, cdbFor, refusals, writes, written}
@@ -95,19 +94,6 @@ need q = sizeFor (q .listed) (length (q .offsets)) (length (q .capabilities))
 
 -- ---- the answer
 
--- the service action fits its field
-pub fits-field : (a : ℕ) → isSome (verbOf a) ≡ true → a < 65536
-unfolding verbOf firstOf
-fits-field a e = go (eqb a 0x8885) (eqb a 0x8886) (eqb a 0x8889) (eqb a 0x8884) refl refl refl refl e
-  where
-    go : (r w c p : Bool) → eqb a 0x8885 ≡ r → eqb a 0x8886 ≡ w → eqb a 0x8889 ≡ c → eqb a 0x8884 ≡ p
-        → isSome (cond r (some Read) (cond w (some Write) (cond c (some Clear) (cond p (some Punch) none)))) ≡ true → a < 65536
-    go true w c p e f g h k = omega (arith, eqb-true a 0x8885 e)
-    go false true c p e f g h k = omega (arith, eqb-true a 0x8886 f)
-    go false false true p e f g h k = omega (arith, eqb-true a 0x8889 g)
-    go false false false true e f g h k = omega (arith, eqb-true a 0x8884 h)
-    go false false false false e f g h k = absurd (false≢true k)
-
 -- what the writer has found when it looks at the buffers: nothing refuses the request itself, and LENGTH is t
 pub record Ready (q : Request) (t : ℕ) : Type 0 where
   pub known : isSome (verbOf (q .action)) ≡ true
@@ -134,7 +120,10 @@ acceptable {q} {t} k =
     accepted q 236 n (open-ended k 236 n ∙ rw (le-ltb n n (le-refl n))) .0
 
 need-is : {q : Request} {t : ℕ} → Ready q t → need q ≡ length (segmentFor q)
-need-is {q} k = sym (ap length (segment-parts q) ∙ parts-length (q .action) (q .listed) (q .offsets) (q .lengths) (q .capabilities) (acceptable k .equal))
+need-is {q} k =
+    sym
+    (ap length (segment-parts q)
+    ∙ parts-length (q .action) (q .listed) (q .offsets) (q .lengths) (q .capabilities) (acceptable k .equal))
 
 -- each answer, `r`, where both buffers stay as they are
 module _ (q : Request) (c s : Bytes) {r : Written} where
@@ -187,8 +176,5 @@ module _ (q : Request) (c s : Bytes) {r : Written} where
 -- ---- what the writing functions ask
 
 module _ {q : Request} {t : ℕ} (k : Ready q t) where
-  pub capability-there : 104 ≤ length (q .capabilities)
-  capability-there = let a = acceptable k in omega (arith, a .given, a .whole)
-
   pub list-fits : q .listed ≡ true → (length (q .offsets) ≡ length (q .lengths)) × (length (q .offsets) ≤ 64)
   list-fits l = let a = acceptable k in (a .equal l, a .few l)

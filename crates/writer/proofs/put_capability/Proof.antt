@@ -22,7 +22,8 @@ returns c =
     let b = c .before .before in
     let a = b .before .before .before .before in
     let s = a .before .before .before .before in
-    next-piece _ (first-piece _ _ (length-part 0 104 (s .args .capabilities .now) (s .pre .1)) (a .copy .ensures) (omega (arith, s .pre))) refl refl (b .zero-out .ensures) .is
+    let first = first-piece _ _ (length-part 0 104 (s .args .capabilities .now) (s .pre .1)) (a .copy .ensures) (omega (arith, s .pre)) in
+    next-piece _ first refl refl (b .zero-out .ensures) .is
 
 pub put-capability-spec : {M : Type 1} → statement M
 put-capability-spec = tie.close (tie.spec copy-requires zero-out-requires same-length returns)

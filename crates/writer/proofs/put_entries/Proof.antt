@@ -48,10 +48,11 @@ loop-less c = omega arith
 loop-again : tie.Need-loop-again Inv-loop μ-loop
 loop-again c =
     let t = c .before .before .before .before .before .before in
-    let s = t .before .before .before .before .before in (
+    let s = t .before .before .before .before .before in
+    let one = c .before .before .put-entry in (
       omega arith,
-      c .before .before .put-entry .kept .0 ∙ t .before .loop .inv .1,
-      entry-step _ _ _ _ _ _ _ (t .loop-test .taken) (s .pre .0) (omega (arith, s .pre)) (t .before .loop .inv .2) (c .before .before .put-entry .ensures),
+      one .kept .0 ∙ t .before .loop .inv .1,
+      entry-step _ _ _ _ _ _ _ (t .loop-test .taken) (s .pre .0) (omega (arith, s .pre)) (t .before .loop .inv .2) (one .ensures),
     )
 
 same-length : tie.Need-same-length Inv-loop μ-loop

@@ -1,8 +1,9 @@
 -- `writer::write_command` meets its contract.
 use native.Mathlib.Omega.{arith}
 use Rattle.rules.specs.Writer.{Request}
+use Rattle.rules.proofs.Accepted.{one-given, fits-field}
 use Rattle.writer.specs.Planning.{request}
-use Rattle.writer.proofs.Whole.{Ready, ready, acceptable, fits-field, capability-there, list-fits}
+use Rattle.writer.proofs.Whole.{Ready, ready, acceptable, list-fits}
 use Rattle.writer.proofs.Whole.{unknown, unsized, unplanned, short-cdb, short-segment, carried-out}
 use borrow.Author.Needs.{needs}
 use Rattle.writer.proofs.write_command.Statement.{statement}
@@ -19,7 +20,8 @@ found c =
     let p = c .before .before in
     let s = p .before .before in
     let k = s .before .before in
-    ready {q = asked c} (k .known .ensures) (s .before .if1 .left) (s .sized .ensures) (p .before .if2 .left) (p .plan-of .ensures _ _ _) (c .total .given .1)
+    ready {q = asked c} (k .known .ensures) (s .before .if1 .left) (s .sized .ensures) (p .before .if2 .left) (p .plan-of .ensures _ _ _)
+    (c .total .given .1)
 
 known-requires : tie.Need-known-requires
 known-requires c κs = search needs
@@ -93,7 +95,7 @@ cast-write-cdb-2 c = search needs
 write-cdb-requires : tie.Need-write-cdb-requires
 write-cdb-requires c κs =
     let t = c .before .before .before .before .before in
-    (c .before .before .if3 .left, capability-there (found t))
+    (c .before .before .if3 .left, one-given (acceptable (found t)))
 
 cast-write-segment : tie.Need-cast-write-segment
 cast-write-segment c =

@@ -16,11 +16,13 @@ abbrev begun : tie.Else2 → tie.Start
 begun c = c .before .before .before .before .before .before
 
 -- with a list, the list is sound, and the three parts have room
-listed-fits : (c : tie.Then1) → (length (started c .args .offsets .now) ≡ length (started c .args .lengths .now)) × (length (started c .args .offsets .now) ≤ 64)
+listed-fits : (c : tie.Then1)
+    → (length (started c .args .offsets .now) ≡ length (started c .args .lengths .now)) × (length (started c .args .offsets .now) ≤ 64)
 listed-fits c = started c .pre .0 (c .if1 .taken)
 
 listed-room : (c : tie.Then1)
-    → 48 + 16 * length (started c .args .offsets .now) + length (extensionPart (started c .args .capabilities .now)) ≤ length (started c .args .segment .now)
+    → 48 + 16 * length (started c .args .offsets .now) + length (extensionPart (started c .args .capabilities .now))
+    ≤ length (started c .args .segment .now)
 listed-room c =
     let s = started c in
     omega (arith, s .pre .2, size-listed (s .args .listed) (length (s .args .offsets .now)) (s .args .capabilities .now) (c .if1 .taken))
@@ -29,14 +31,15 @@ listed-room c =
 unlisted-room : (c : tie.Else2)
     → 40 + length (extensionPart (begun c .args .capabilities .now)) ≤ length (begun c .args .segment .now)
 unlisted-room c =
-    let s = begun c in
-    omega (arith, s .pre .2, size-unlisted (s .args .listed) (length (s .args .offsets .now)) (s .args .capabilities .now) (c .before .if1 .left) (c .if2 .left))
+    let a = begun c .args in
+    let size = size-unlisted (a .listed) (length (a .offsets .now)) (a .capabilities .now) (c .before .if1 .left) (c .if2 .left) in
+    omega (arith, begun c .pre .2, size)
 
 put-segment-head-requires : tie.Need-put-segment-head-requires
 put-segment-head-requires c κs = omega (arith, listed-room (c .before))
 
 put-list-requires : tie.Need-put-list-requires
-put-list-requires c κs = omega (arith, listed-room (c .before .before .before .before .before), listed-fits (c .before .before .before .before .before))
+put-list-requires c κs = let t = c .before .before .before .before .before in omega (arith, listed-room t, listed-fits t)
 
 mul-put-extension : tie.Need-mul-put-extension
 mul-put-extension c = search needs
