@@ -35,7 +35,8 @@ unfolding meet
 empty-right g h e = rw (eq-eqb (h .size) 0 e, and-false (not (eqb (g .size) 0)))
 
 -- two that aren't empty: each starts below the other's end
-pub meet-both : (g h : Range) (a b : Bool) → (g .size ≡ 0 → ⊥) → (h .size ≡ 0 → ⊥) → a ≡ ltb (g .start) (end h) → a ≡ true → b ≡ ltb (h .start) (end g) → b ≡ meet g h
+pub meet-both : (g h : Range) (a b : Bool) → (g .size ≡ 0 → ⊥) → (h .size ≡ 0 → ⊥)
+    → a ≡ ltb (g .start) (end h) → a ≡ true → b ≡ ltb (h .start) (end g) → b ≡ meet g h
 unfolding meet
 meet-both g h a b y z e t f = rw (ne-eqb (g .size) 0 y, ne-eqb (h .size) 0 z, ← e, t, ← f)
 

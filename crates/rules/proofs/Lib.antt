@@ -22,3 +22,14 @@ pub mod Beside
 pub mod Isolation
 pub mod Needed
 pub mod Paired
+pub mod Laying
+pub mod Spelled
+pub mod Accepted
+pub mod Standing
+pub mod ReadBackWalk
+pub mod ReadBackParts
+pub mod ReadBackFields
+pub mod ReadBackShape
+pub mod ReadBackRead
+pub mod ReadBack
+pub mod ReadBackAnswer

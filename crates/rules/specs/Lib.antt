@@ -12,6 +12,7 @@ pub mod Numbers
 pub mod Object
 pub mod Answer
 pub mod Writer
+pub mod ReadBack
 pub mod Session
 pub mod Samples
 pub mod Marked

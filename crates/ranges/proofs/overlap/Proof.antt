@@ -41,7 +41,8 @@ returns : tie.Need-returns Inv-loop μ-loop
 returns c =
     let t = c .before .before .before .before in
     let s = t .before .before .before .before in
-    sym (t .before .loop .inv .1 ∙ overlaps-here _ _ _ _ (t .loop-test .taken) (s .pre .0) (s .pre .1) (c .before .shares-later .ensures) (c .if1 .taken))
+    let here = overlaps-here _ _ _ _ (t .loop-test .taken) (s .pre .0) (s .pre .1) (c .before .shares-later .ensures) (c .if1 .taken) in
+    sym (t .before .loop .inv .1 ∙ here)
 
 add-i : tie.Need-add-i Inv-loop μ-loop
 add-i c = omega arith
@@ -53,7 +54,8 @@ loop-again : tie.Need-loop-again Inv-loop μ-loop
 loop-again c =
     let t = c .before .before .before .before in
     let s = t .before .before .before .before in
-    (omega arith, t .before .loop .inv .1 ∙ apart-here _ _ _ _ (t .loop-test .taken) (s .pre .0) (s .pre .1) (c .before .shares-later .ensures) (c .if1 .left))
+    let here = apart-here _ _ _ _ (t .loop-test .taken) (s .pre .0) (s .pre .1) (c .before .shares-later .ensures) (c .if1 .left) in
+    (omega arith, t .before .loop .inv .1 ∙ here)
 
 returns-2 : tie.Need-returns-2 Inv-loop μ-loop
 returns-2 c = sym (c .before .loop .inv .1 ∙ overlaps-none _ _ _ _ (c .before .loop .inv .0) (c .loop-test .left))

@@ -19,7 +19,8 @@ starts-below-end-requires-2 c κs = search needs
 returns-3 : tie.Need-returns-3
 returns-3 c =
     let first = c .before .before in
-    meet-both _ _ _ _ (first .before .before .before .if1 .left) (first .before .if2 .left) (first .starts-below-end .ensures) (c .before .if3 .taken) (c .starts-below-end2 .ensures)
+    meet-both _ _ _ _ (first .before .before .before .if1 .left) (first .before .if2 .left) (first .starts-below-end .ensures) (c .before .if3 .taken)
+    (c .starts-below-end2 .ensures)
 
 returns-4 : tie.Need-returns-4
 returns-4 c =

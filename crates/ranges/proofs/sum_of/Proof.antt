@@ -24,7 +24,9 @@ sub-if1 : tie.Need-sub-if1 Inv-loop μ-loop
 sub-if1 c = omega arith
 
 returns : tie.Need-returns Inv-loop μ-loop
-returns c = added-over _ _ _ _ (c .before .before .loop-test .taken) (c .before .before .before .before .pre) (omega arith) (c .before .before .before .loop .inv)
+returns c =
+    let t = c .before .before in
+    added-over _ _ _ _ (t .loop-test .taken) (t .before .before .pre) (omega arith) (t .before .loop .inv)
 
 add-sum : tie.Need-add-sum Inv-loop μ-loop
 add-sum c = omega arith
@@ -36,7 +38,9 @@ loop-less : tie.Need-loop-less Inv-loop μ-loop
 loop-less c = omega arith
 
 loop-again : tie.Need-loop-again Inv-loop μ-loop
-loop-again c = added-more _ _ _ _ (c .before .before .loop-test .taken) (c .before .before .before .before .pre) (omega arith) (c .before .before .before .loop .inv)
+loop-again c =
+    let t = c .before .before in
+    added-more _ _ _ _ (t .loop-test .taken) (t .before .before .pre) (omega arith) (t .before .loop .inv)
 
 returns-2 : tie.Need-returns-2 Inv-loop μ-loop
 returns-2 c = added-all _ _ _ _ (c .loop-test .left) (c .before .before .pre) (c .before .loop .inv)

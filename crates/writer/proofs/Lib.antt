@@ -1,0 +1,5 @@
+pub mod Verbs
+pub mod Sizes
+pub mod Planned
+pub mod Entries
+pub mod Whole
