@@ -88,12 +88,14 @@ asked =
     ∷ ask (plain (capability 0 1 ++ capability 2 3 ++ capability 2 8) READ 0 1) 2 4
     -- none admits it
     ∷ ask (plain k READ 0 1) 15 2
-    -- rows 1, 9 and 10 aren't looked at: a list, and a starting address that is not zero
+    -- row 9 isn't looked at: a list, and a starting address that is not zero
     ∷ ask (request k READ 5 0 true (0 ∷ []) (1 ∷ [])) 3 4
+    -- nor is row 10: on WRITE, two entries that share a position
+    ∷ ask (two k WRITE 0 2 1 2) 3 4
     -- row 8 is: a list on CLEAR
     ∷ ask (request k CLEAR 0 0 true (0 ∷ []) (1 ∷ [])) 3 4
     ∷ []
 
-pub answers : asked ≡ some (inCdb, 80) ∷ some (inOut, 48) ∷ some (inOut, 152) ∷ none ∷ some (inCdb, 80) ∷ none ∷ []
+pub answers : asked ≡ some (inCdb, 80) ∷ some (inOut, 48) ∷ some (inOut, 152) ∷ none ∷ some (inCdb, 80) ∷ some (inCdb, 80) ∷ none ∷ []
 unfolding text slice capability request called
 answers = refl
