@@ -8,12 +8,15 @@
 mod capabilities;
 mod layout;
 mod object;
+pub mod question;
 mod ranges;
 pub mod request;
+pub mod segment;
 
 use crate::capability::Capability;
 use crate::case::Case;
 use crate::command::{Action, Fields, Range};
+use crate::numbers::MOST_SLICE_BYTES;
 use crate::random::Random;
 use layout::Layout;
 use object::Object;
@@ -54,6 +57,16 @@ pub fn heavy_command(random: &mut Random) -> Case {
     let slips = draw_slips(random);
     let object = object::draw_heavy(random);
     on_object(random, object, &slips)
+}
+
+/// How long a slice might be, at an edge that rows 1 and 14 ask about. No such slice is made.
+pub fn slice_length(random: &mut Random, case: &Case) -> usize {
+    let edge = random.pick(&[
+        MOST_SLICE_BYTES as u64,
+        case.record.logical_length,
+        case.record.maximum_length,
+    ]);
+    random.near(edge) as usize
 }
 
 /// Mostly none or one; two together show that the earlier row is given.

@@ -6,7 +6,8 @@
 //! * [`engine::answer`] carries out one command,
 //! * [`admission::question`] tells which capability admits a range,
 //! * [`writer::write`] is the host's side,
-//! * [`generate`] makes random calls, [`laws`] checks answers to them, [`vectors`] keeps them as text.
+//! * [`generate`] makes random calls, [`laws`] checks answers to them, [`vectors`] keeps them as text,
+//! * [`theorems`] says answers in the language of the book of rules, to hold the two against each other.
 
 pub mod admission;
 pub mod bytes;
@@ -20,5 +21,6 @@ pub mod numbers;
 pub mod random;
 pub mod record;
 pub mod segment;
+pub mod theorems;
 pub mod vectors;
 pub mod writer;
