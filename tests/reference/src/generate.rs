@@ -6,10 +6,13 @@
 //! before for want of a capability.
 
 mod capabilities;
+pub mod errand;
 mod layout;
 mod object;
+pub mod question;
 mod ranges;
 pub mod request;
+pub mod session;
 
 use crate::capability::Capability;
 use crate::case::Case;
