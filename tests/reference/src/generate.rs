@@ -5,6 +5,7 @@
 //! themselves to earlier ones. So a slip in the ranges meets the row it aims at, and isn't refused
 //! before for want of a capability.
 
+pub mod bench_file;
 mod capabilities;
 pub mod errand;
 mod layout;
