@@ -5,13 +5,16 @@
 //! themselves to earlier ones. So a slip in the ranges meets the row it aims at, and isn't refused
 //! before for want of a capability.
 
+pub mod bench_file;
 mod capabilities;
+pub mod errand;
 mod layout;
 mod object;
 pub mod question;
 mod ranges;
 pub mod request;
 pub mod segment;
+pub mod session;
 
 use crate::capability::Capability;
 use crate::case::Case;

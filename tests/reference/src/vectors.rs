@@ -121,10 +121,10 @@ pub fn from_hex(text: &str) -> Result<Vec<u8>, String> {
         .collect())
 }
 
-fn record_from_hex(text: &str) -> Result<Record, String> {
+pub(crate) fn record_from_hex(text: &str) -> Result<Record, String> {
     Record::from_bytes(&from_hex(text)?).ok_or("a record that isn't 38 bytes".to_string())
 }
 
-fn decimal<T: std::str::FromStr>(text: &str) -> Result<T, String> {
+pub(crate) fn decimal<T: std::str::FromStr>(text: &str) -> Result<T, String> {
     text.parse().map_err(|_| format!("no number: {text}"))
 }

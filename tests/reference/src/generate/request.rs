@@ -7,7 +7,7 @@ use crate::segment::{MOST_BYTES, MOST_LIST_ENTRIES};
 use crate::writer::{self, Request, MOST_CAPABILITY_BYTES, WRITTEN};
 
 /// A request with the slices that it borrows.
-#[derive(Clone, Debug)]
+#[derive(Clone, Debug, PartialEq, Eq)]
 pub struct OwnedRequest {
     pub service_action: u64,
     pub partition_id: u64,

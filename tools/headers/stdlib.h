@@ -1,0 +1,11 @@
+#ifndef STDLIB_H
+#define STDLIB_H
+
+#include <stddef.h>
+
+void *malloc(size_t size);
+void *realloc(void *from, size_t size);
+void free(void *from);
+__attribute__((noreturn)) void exit(int status);
+
+#endif
