@@ -14,7 +14,7 @@ use crate::writer;
 /// Requests under way at a time: enough that nobody waits for a single reply.
 const BATCH: usize = 500;
 /// Commands on the largest slice take long, so they are few.
-const HEAVY_EVERY: u64 = 5_000;
+const HEAVY_EVERY: u64 = 10_000;
 /// Numbers whose sense is asked one by one, from 0 on; then some far beyond.
 const SENSES: u32 = 300;
 
