@@ -18,7 +18,7 @@
  *             not touched. The other slices may have any size.
  * Threads     There is no global state. Calls that share no memory may run at once, and so may calls that
  *             share only memory that all of them only read.
- * Failing     Every call returns. No value of an argument is forbidden: what doesn't fit is refused.
+ * Failing     Every call returns. No byte and no number is forbidden: what doesn't fit is refused.
  *
  * THE OBJECT
  *

@@ -4,7 +4,6 @@
 #include <stddef.h>
 
 void *malloc(size_t size);
-void *realloc(void *from, size_t size);
 void free(void *from);
 __attribute__((noreturn)) void exit(int status);
 

@@ -6,6 +6,5 @@
 void *memcpy(void *restrict to, const void *restrict from, size_t size);
 int memcmp(const void *left, const void *right, size_t size);
 void *memset(void *to, int byte, size_t size);
-size_t strlen(const char *text);
 
 #endif
