@@ -63,14 +63,14 @@ fn first_extension(segment: &[u8], part: Part, said: Parsed, on: Record, g: Rang
     ensures { λ r. ⌜ r ≡ firstFrom (admitsIn said on g) (now (segment .entry)) part ⌝ }
 {
     let mut from = part.at;
-    let mut left = part.size / 104;
-    while 0 < left {
+    let mut untried = part.size / 104;
+    while 0 < untried {
         let to = from + 104;
         if admits(&segment[from..to], said, on, g) {
             return Place::InOut(from);
         }
         from = to;
-        left -= 1;
+        untried -= 1;
     }
     Place::Nowhere
 }

@@ -6,10 +6,10 @@ use Rattle.admission.proofs.first_extension.Statement.{statement}
 use Rattle.admission.proofs.first_extension.Tie as tie
 
 abbrev Inv-loop : tie.InvT-loop
-Inv-loop segment said on g from₀ left₀ from left = First (admitsIn said on g) segment from₀ left₀ from left
+Inv-loop segment said on g from₀ untried₀ from untried = First (admitsIn said on g) segment from₀ untried₀ from untried
 
 abbrev μ-loop : tie.MeasureT-loop
-μ-loop segment said on g from₀ left₀ from left = left
+μ-loop segment said on g from₀ untried₀ from untried = untried
 
 loop-holds : tie.Need-loop-holds Inv-loop μ-loop
 loop-holds c = let l = c .before .before .pre .inside in first-begun _ _ _ _ (omega arith)
@@ -33,8 +33,8 @@ returns : tie.Need-returns Inv-loop μ-loop
 unfolding firstFrom
 returns c = first-hit _ _ _ _ _ _ (c .before .before .before .before .loop .inv) (c .before .before .before .loop-test .taken) _ (c .before .admits .ensures) (c .if1 .taken)
 
-sub-left : tie.Need-sub-left Inv-loop μ-loop
-sub-left c = search needs
+sub-untried : tie.Need-sub-untried Inv-loop μ-loop
+sub-untried c = search needs
 
 loop-less : tie.Need-loop-less Inv-loop μ-loop
 loop-less c = search needs
@@ -59,7 +59,7 @@ first-extension-spec =
     part-admits-end
     admits-requires
     returns
-    sub-left
+    sub-untried
     loop-less
     loop-again
     returns-2)
