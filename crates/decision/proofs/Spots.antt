@@ -25,11 +25,11 @@ use Rattle.decision.specs.Decisions.{Lists, ListsAt, faultIn, rangesAt, 
 pub list-lies : (s : Bytes) (x : Spot) (d : Part) → ListsAt s x → x ≡ At d → Lists s d
 list-lies s x d l e = subst (λ (y : Spot). ListsAt s y) e l
 
-sole-range : (s : Bytes) (p : Parsed) → p .found .list ≡ Absent → rangesIn s p ≡ record { start = p .start; size = p .size } ∷ []
+pub sole-range : (s : Bytes) (p : Parsed) → p .found .list ≡ Absent → rangesIn s p ≡ record { start = p .start; size = p .size } ∷ []
 unfolding rangesIn
 sole-range s p e = ap (λ (x : Spot). rangesAt x s p) e
 
-entry-ranges : (s : Bytes) (p : Parsed) (d : Part) → p .found .list ≡ At d → rangesIn s p ≡ entriesFrom (d .size / 16) s (d .at)
+pub entry-ranges : (s : Bytes) (p : Parsed) (d : Part) → p .found .list ≡ At d → rangesIn s p ≡ entriesFrom (d .size / 16) s (d .at)
 unfolding rangesIn
 entry-ranges s p d e = ap (λ (x : Spot). rangesAt x s p) e
 

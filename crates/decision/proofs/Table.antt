@@ -65,19 +65,19 @@ module _ (c : Command) (m : Room) (p : Parsed) (o : Open c m p) where
   unfolding saidBy
   found-is = sym (ap (λ (q : Parsed). q .found) (said .said))
 
-  start-is : startOf (c .cdb) ≡ p .start
+  pub start-is : startOf (c .cdb) ≡ p .start
   unfolding saidBy
   start-is = sym (ap (λ (q : Parsed). q .start) (said .said))
 
-  size-is : lengthOf (c .cdb) ≡ p .size
+  pub size-is : lengthOf (c .cdb) ≡ p .size
   unfolding saidBy
   size-is = sym (ap (λ (q : Parsed). q .size) (said .said))
 
-  end-is : continuation (c .cdb) ≡ p .segment
+  pub end-is : continuation (c .cdb) ≡ p .segment
   unfolding saidBy
   end-is = sym (ap (λ (q : Parsed). q .segment) (said .said))
 
-  ranges-are : ranges c ≡ rangesIn (segment c) p
+  pub ranges-are : ranges c ≡ rangesIn (segment c) p
   unfolding ranges rangesIn soleRange
   ranges-are = go (p .found .list) (ap (λ (f : Found). f .list) found-is)
     where

@@ -2,8 +2,8 @@
 use rules::Range;
 ghost use mathlib.Core.Path.{_≡_};
 ghost use mathlib.Core.Bool.{false};
-ghost use mathlib.Core.List.{_++_};
-ghost use Prim.Native.Nat.{_+_, _-_, _*_, _<_, _≤_, min};
+ghost use mathlib.Core.List.{[], _∷_, _++_};
+ghost use Prim.Native.Nat.{_+_, _-_, _*_, _<_, _≤_, min, max};
 ghost use lib.ListN.{length, take, drop};
 ghost use lib.Dec.{ltb};
 ghost use Rattle.rules.specs.Bytes.{part, zeros, laid, any};
@@ -52,6 +52,41 @@ pub fn grow(s: &mut [u8], old: usize, new: usize)
     ensures { λ _. ⌜ now (s .exit) ≡ grown old new (now (s .entry)) ⌝ }
 {
     wipe(s, old, new - old);
+}
+
+fn largest(a: usize, b: usize) -> usize
+    ensures { λ r. ⌜ r ≡ max a b ⌝ }
+{
+    if a < b {
+        return b;
+    }
+    a
+}
+
+// WRITE of one range. Where it raises the length, only the gap in front of it is made zero: the range itself is filled.
+pub fn write_range(slice: &mut [u8], logical: usize, g: Range, out: &[u8], from: usize)
+    requires { ⌜ (from + g .size ≤ length (now out)) × (reach logical (g ∷ []) ≤ length (now slice)) ⌝ }
+    ensures { λ _. ⌜ now (slice .exit) ≡ scattered (grown logical (reach logical (g ∷ [])) (now (slice .entry))) (g ∷ []) (drop from (now (out .entry))) ⌝ }
+{
+    if g.size == 0 {
+        return;
+    }
+    let start = g.start as usize;
+    grow(slice, logical, largest(logical, start));
+    copy(out, from, g.size as usize, slice, start);
+}
+
+// CLEAR of one range, in the same two steps.
+pub fn clear_range(slice: &mut [u8], logical: usize, g: Range)
+    requires { ⌜ reach logical (g ∷ []) ≤ length (now slice) ⌝ }
+    ensures { λ _. ⌜ now (slice .exit) ≡ scattered (grown logical (reach logical (g ∷ [])) (now (slice .entry))) (g ∷ []) (zeros (g .size)) ⌝ }
+{
+    if g.size == 0 {
+        return;
+    }
+    let start = g.start as usize;
+    grow(slice, logical, largest(logical, start));
+    wipe(slice, start, g.size as usize);
 }
 
 // the smaller of two numbers

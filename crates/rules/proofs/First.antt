@@ -2,7 +2,7 @@
 use Prim.Native.Nat.{ℕ, zero, suc, _<_, zero-le, suc-le-suc}
 use native.Mathlib.Omega.{arith}
 use native.Mathlib.Nat.{not-suc-le-zero, le-of-suc-le-suc}
-use mathlib.Core.Path.{_≡_, refl, sym}
+use mathlib.Core.Path.{_≡_, refl, sym, _∙_}
 use mathlib.Core.Bool.{Bool, true, false, cond}
 use mathlib.Core.Option.{Option, none, some}
 use mathlib.Core.List.{List, [], _∷_, _++_, map}
@@ -100,6 +100,13 @@ ahead (t ∷ ts) us x e = go (t .holds) e (ahead ts us x)
         → cond b (some (t .gives)) (firstOf (ts ++ us)) ≡ some x
     go true q r = q
     go false q r = r q
+
+pub ahead-none : {X : Type 0} (ts us : List (Test X)) → firstOf (ts ++ us) ≡ none → firstOf ts ≡ none
+ahead-none {X} ts us e = go (firstOf ts) refl
+  where
+    go : (o : Option X) → firstOf ts ≡ o → o ≡ none
+    go none h = refl
+    go (some x) h = absurd (some-none (sym (ahead ts us x h) ∙ e))
 
 pub behind : {X : Type 0} (ts us : List (Test X)) → firstOf ts ≡ none → firstOf (ts ++ us) ≡ firstOf us
 unfolding firstOf

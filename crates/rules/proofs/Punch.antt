@@ -123,7 +123,7 @@ module _ (g : Range) (n : ℕ) (s : Bytes) (begins : g .start ≤ n) (fits : n �
 -- ---- the law
 
 -- rows 8 and 12: PUNCH has one range, and it doesn't start above logical length
-begins-within : {c : Command} {m : Room} → Passed c m → verb c ≡ some Punch → hole c .start ≤ old c
+pub begins-within : {c : Command} {m : Room} → Passed c m → verb c ≡ some Punch → hole c .start ≤ old c
 unfolding any
 begins-within {c} p v = ltb-false _ _ (or-false-parts (ltb (old c) (hole c .start)) _ (rw (alone c (unlisted p Punch v refl)) at (begun p Punch v refl)) .0)
 

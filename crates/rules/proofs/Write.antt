@@ -59,21 +59,21 @@ pub record Wrote (c : Command) (d s i : Bytes) (a : Answered) : Type 0 where
 -- ---- the gap, which is zero before the ranges are written
 
 module _ (old new : ℕ) (s : Bytes) (raises : old ≤ new) (fits : new ≤ length s) where
-  gap-length : old + length (zeros (new - old)) ≡ new
+  pub gap-length : old + length (zeros (new - old)) ≡ new
   gap-length = rw length-replicate (add-sub-of-le raises)
 
-  grown-length : length (grown old new s) ≡ length s
+  pub grown-length : length (grown old new s) ≡ length s
   unfolding grown
   grown-length = laid-length old (zeros (new - old)) s (rw gap-length fits)
 
-  grown-zero : (p : ℕ) → old ≤ p → p < new → byte p (grown old new s) ≡ 0
+  pub grown-zero : (p : ℕ) → old ≤ p → p < new → byte p (grown old new s) ≡ 0
   unfolding grown
   grown-zero p from below =
       let zero-at = byte-zeros (new - old) (p - old) (omega arith) in
       let within = laid-within old (zeros (new - old)) s (p - old) (omega arith) (rw length-replicate (omega arith)) in
       rw (add-sub-of-le from) at (within ∙ zero-at)
 
-  grown-other : (p : ℕ) → (p < old) ⊎ (new ≤ p) → byte p (grown old new s) ≡ byte p s
+  pub grown-other : (p : ℕ) → (p < old) ⊎ (new ≤ p) → byte p (grown old new s) ≡ byte p s
   unfolding grown
   grown-other p (inl below) = laid-below old (zeros (new - old)) s p (omega arith) below
   grown-other p (inr above) = laid-above old (zeros (new - old)) s p (omega arith) (rw gap-length above)

@@ -1,4 +1,7 @@
 // The types that every crate shares. specs/ has the rules, stated over these types.
+ghost use mathlib.Core.Path.{_≡_};
+ghost use Prim.Native.Nat.{_-_, _≤_};
+ghost use Rattle.rules.specs.Answer.{lengthened};
 
 // An object's record. Only `length`, the logical length, ever changes.
 pub struct Record {
@@ -8,6 +11,25 @@ pub struct Record {
     pub maximum: u64,
     pub tag: u32,
     pub epoch: u16,
+}
+
+impl Record {
+    // After WRITE and CLEAR: the record with the logical length that they leave.
+    pub fn with_length(self, length: u64) -> Record
+        ensures { λ r. ⌜ r ≡ lengthened self length ⌝ }
+    {
+        let mut next = self;
+        next.length = length;
+        next
+    }
+
+    // After PUNCH: the record of an object that has lost `count` bytes.
+    pub fn shortened(self, count: u64) -> Record
+        requires { ⌜ count ≤ self .length ⌝ }
+        ensures { λ r. ⌜ r ≡ lengthened self (self .length - count) ⌝ }
+    {
+        self.with_length(self.length - count)
+    }
 }
 
 // Positions of the object: `size` of them from `start` on.

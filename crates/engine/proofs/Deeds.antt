@@ -1,0 +1,148 @@
+-- The deeds over a command that was read, with a list and without: what the movers ask, and what they come to.
+use Prim.Native.Nat.{ℕ, _+_, _-_, _*_, _/_, _≤_, _<_}
+use mathlib.Core.Path.{_≡_, ap, _∙_}
+use mathlib.Core.Bool.{false, cond}
+use mathlib.Core.List.{[], _∷_, _++_}
+use native.Mathlib.Omega.{arith}
+use lib.Dec.{ltb}
+use lib.ListN.{length, take, drop, length-append, length-take, length-drop}
+use borrow.Author.Tests.{ltb-false, lt-ltb, le-ltb}
+use Rattle.rules.specs.declared.Answer.{Answer}
+use Rattle.rules.specs.declared.Part.{Part}
+use Rattle.rules.specs.declared.Range.{Range}
+use Rattle.rules.specs.declared.Record.{Record}
+use Rattle.rules.specs.declared.Spot.the-variants.{Absent, At}
+use Rattle.rules.specs.declared.Outcome.{Outcome}
+use Rattle.rules.specs.declared.Outcome.the-variants.{Done, Ended}
+use Rattle.rules.specs.Bytes.{Bytes, part, zeros, laid, any}
+use Rattle.rules.specs.Ranges.{total, reach}
+use Rattle.rules.specs.Segment.{entriesFrom}
+use Rattle.rules.specs.Object.{gathered, scattered, grown, punched}
+use Rattle.rules.specs.Answer.{answer, lengthened}
+use Rattle.rules.proofs.Booleans.{or-false-parts}
+use Rattle.rules.proofs.Laying.{laid-first}
+use Rattle.rules.proofs.Positions.{reach-old}
+use Rattle.rules.proofs.Write.{grown-length}
+use Rattle.header.specs.declared.Parsed.{Parsed}
+use Rattle.decision.specs.Decisions.{Lists, rangesIn, beyondIn}
+use Rattle.decision.proofs.Spots.{list-lies, sole-range, entry-ranges}
+use Rattle.object.proofs.Sole.{gathered-sole}
+use Rattle.object.proofs.Scattering.{reach-from}
+use Rattle.engine.specs.Deeds.{sole, ForRead, ForWrite, ForClear, ForPunch}
+
+-- ---- READ: what was gathered stands first in Data-In
+abbrev Put : (d before after : Bytes) → (count : ℕ) → Type 0
+Put d i j k = (k ≡ length d) × (j ≡ d ++ drop (length d) i)
+
+module _ {s : Bytes} {p : Parsed} {n slice input : ℕ} (f : ForRead s p n slice input) where
+  module _ (e : p .found .list ≡ Absent) (g : Range) (is : g ≡ sole p) where
+    pub sole-asks : (g .start ≤ n) × (n ≤ slice) × (0 + g .size ≤ input)
+    unfolding beyondIn any total
+    sole-asks =
+        let starts : p .start ≤ n = ltb-false _ _ (or-false-parts (ltb n (p .start)) _ (rw (sole-range s p e) at (f .begins)) .0) in
+        let fits : p .size + 0 ≤ input = rw (sole-range s p e) at (f .room) in
+        rw is (starts, f .held, omega arith)
+
+    pub sole-read : (o i j : Bytes) (k : ℕ) → (k ≡ length (part (g .start) (g .size) o)) × (j ≡ laid 0 (part (g .start) (g .size) o) i)
+        → Put (gathered o (rangesIn s p)) i j k
+    sole-read o i j k h =
+        let d : gathered o (rangesIn s p) ≡ part (g .start) (g .size) o = rw (sole-range s p e, is) (gathered-sole o (sole p)) in
+        rw d (h .0, h .1 ∙ laid-first _ i)
+
+  module _ (d : Part) (e : p .found .list ≡ At d) where
+    lies : Lists s d
+    lies = list-lies s _ d (f .lists) e
+
+    pub list-asks : (d .at + 16 * (d .size / 16) ≤ length s) × (n ≤ slice)
+    list-asks = (omega (arith, lies .inside), f .held)
+
+    pub list-begins : any (λ (g : Range). ltb n (g .start)) (entriesFrom (d .size / 16) s (d .at)) ≡ false
+    unfolding beyondIn
+    list-begins = rw (entry-ranges s p d e) at (f .begins)
+
+    pub list-room : total (entriesFrom (d .size / 16) s (d .at)) ≤ input
+    list-room = rw (entry-ranges s p d e) at (f .room)
+
+    pub list-read : (o i j : Bytes) (k : ℕ) → Put (gathered o (entriesFrom (d .size / 16) s (d .at))) i j k → Put (gathered o (rangesIn s p)) i j k
+    list-read o i j k h = rw (entry-ranges s p d e) h
+
+-- fewer bytes than LENGTH, and all of them
+module _ (s o i j : Bytes) (p : Parsed) (on : Record) (k : ℕ) (h : Put (gathered (take (on .length) o) (rangesIn s p)) i j k) where
+  abbrev Told : Outcome → Type 0
+  Told e =
+      (answer e k on
+      ≡ answer (cond (ltb (length (gathered (take (on .length) o) (rangesIn s p))) (p .size)) Ended Done) (length (gathered (take (on .length) o) (rangesIn s p))) on)
+      × (j ≡ gathered (take (on .length) o) (rangesIn s p) ++ drop (length (gathered (take (on .length) o) (rangesIn s p))) i)
+
+  pub read-short : k < p .size → Told Ended
+  read-short l = (rw (← h .0, lt-ltb k (p .size) l), h .1)
+
+  pub read-full : p .size ≤ k → Told Done
+  read-full l = (rw (← h .0, le-ltb k (p .size) l), h .1)
+
+-- ---- WRITE and CLEAR: the record with its new length
+pub record-told : (r : Answer) (size : ℕ) (next new : Record) → r ≡ answer Done size next → next ≡ new → r ≡ answer Done size new
+record-told r size next new e f = e ∙ ap (answer Done size) f
+
+-- ---- WRITE: the ranges filled
+module _ {s : Bytes} {p : Parsed} {n raised out slice : ℕ} (f : ForWrite s p n raised out slice) where
+  module _ (e : p .found .list ≡ Absent) (g : Range) (is : g ≡ sole p) where
+    pub write-asks : (p .segment + g .size ≤ out) × (reach n (g ∷ []) ≤ slice)
+    unfolding total
+    write-asks =
+        let enough : p .segment + (p .size + 0) ≤ out = rw (sole-range s p e) at (f .supplied) in
+        let top : raised ≡ reach n (sole p ∷ []) = rw (sole-range s p e) at (f .reaches) in
+        rw is (omega arith, rw (← top) (f .fits))
+
+    pub sole-written : (o t d : Bytes) → t ≡ scattered (grown n (reach n (g ∷ [])) o) (g ∷ []) d → t ≡ scattered (grown n raised o) (rangesIn s p) d
+    sole-written o t d h =
+        let top : raised ≡ reach n (sole p ∷ []) = rw (sole-range s p e) at (f .reaches) in
+        h ∙ rw (is, sole-range s p e, top)
+
+  module _ (d : Part) (e : p .found .list ≡ At d) where
+    pub grow-asks : (n ≤ raised) × (raised ≤ slice)
+    grow-asks = (rw (f .reaches) (reach-old n (rangesIn s p)), f .fits)
+
+    pub scatter-asks : (d .at + 16 * (d .size / 16) ≤ length s) × (p .segment + total (entriesFrom (d .size / 16) s (d .at)) ≤ out)
+    scatter-asks = (omega (arith, list-lies s _ d (f .lists) e .inside), rw (entry-ranges s p d e) at (f .supplied))
+
+    pub scatter-reaches : (o t : Bytes) → length o ≡ slice → t ≡ grown n raised o → reach 0 (entriesFrom (d .size / 16) s (d .at)) ≤ length t
+    scatter-reaches o t l gap =
+        let long : length t ≡ slice = rw gap (grown-length n raised o (grow-asks .0) (rw l (f .fits))) ∙ l in
+        let top : raised ≡ reach n (entriesFrom (d .size / 16) s (d .at)) = rw (entry-ranges s p d e) at (f .reaches) in
+        omega (arith, long, top, f .fits, reach-from n (entriesFrom (d .size / 16) s (d .at)))
+
+    pub list-written : (o t u x : Bytes) → t ≡ grown n raised o → u ≡ scattered t (entriesFrom (d .size / 16) s (d .at)) x
+        → u ≡ scattered (grown n raised o) (rangesIn s p) x
+    list-written o t u x gap h = h ∙ rw (gap, entry-ranges s p d e)
+
+-- ---- CLEAR
+module _ {p : Parsed} {n raised slice : ℕ} (f : ForClear p n raised slice) (g : Range) (is : g ≡ sole p) where
+  pub clear-asks : reach n (g ∷ []) ≤ slice
+  clear-asks = rw (is, ← f .reaches) (f .fits)
+
+  pub cleared : (o t : Bytes) → t ≡ scattered (grown n (reach n (g ∷ [])) o) (g ∷ []) (zeros (g .size)) → t ≡ scattered (grown n raised o) (sole p ∷ []) (zeros (p .size))
+  cleared o t h = h ∙ rw (is, f .reaches)
+
+-- ---- PUNCH
+-- what is left is no longer than what there was
+left-of : (g : Range) (n : ℕ) (o : Bytes) → n - (n - length (punched g (take n o))) ≡ length (punched g (take n o))
+unfolding punched
+left-of g n o = simp (length-append, length-take, length-drop) (omega arith)
+
+pub punch-asks : {p : Parsed} {n slice : ℕ} → ForPunch p n slice → (g : Range) → g ≡ sole p → (g .start ≤ n) × (n ≤ slice)
+punch-asks f g is = rw is (f .begins, f .held)
+
+module _ (p : Parsed) (on : Record) (o : Bytes) (g : Range) (is : g ≡ sole p) where
+  abbrev left : Bytes
+  left = punched (sole p) (take (on .length) o)
+
+  pub was-punched : (k : ℕ) (t : Bytes) (next : Record)
+      → (k ≡ on .length - length (punched g (take (on .length) o)))
+      × (t ≡ punched g (take (on .length) o) ++ zeros (on .length - length (punched g (take (on .length) o))) ++ drop (on .length) o)
+      → next ≡ lengthened on (on .length - k)
+      → (answer Done k next ≡ answer Done (on .length - length left) (lengthened on (length left)))
+      × (t ≡ left ++ zeros (on .length - length left) ++ drop (on .length) o)
+  was-punched k t next h e =
+      let counted : k ≡ on .length - length left = rw is at (h .0) in
+      (rw (e, counted, left-of (sole p) (on .length) o), rw is at (h .1))

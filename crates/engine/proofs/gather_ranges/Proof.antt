@@ -1,0 +1,37 @@
+-- `engine::gather_ranges` meets its contract, with a list and without.
+use Rattle.engine.proofs.Deeds.{sole-asks, sole-read, list-asks, list-begins, list-room, list-read}
+use borrow.Author.Needs.{needs}
+use Rattle.engine.proofs.gather_ranges.Statement.{statement}
+use Rattle.engine.proofs.gather_ranges.Tie as tie
+
+enum-told : tie.Need-enum-told
+enum-told c = search needs
+
+sole-range-requires : tie.Need-sole-range-requires
+sole-range-requires c κs = search needs
+
+gather-requires : tie.Need-gather-requires
+gather-requires c κs = sole-asks (c .before .before .before .before .before .before .before .before .pre) (c .before .before .enum-told .given .1) _ (c .before .sole-range .ensures)
+
+enum-known-list : tie.Need-enum-known-list
+enum-known-list c = search needs
+
+gather-list-requires : tie.Need-gather-list-requires
+gather-list-requires c κs = let p = c .before .before .before .before .before .before .before .before .before .pre in
+    let e = c .before .before .before .list .given .1 in
+    (list-asks p _ e, (list-begins p _ e, list-room p _ e))
+
+same-length : tie.Need-same-length
+same-length c = search needs
+
+returns : tie.Need-returns
+returns c = sole-read (c .before .before .before .before .before .before .before .before .before .before .before .pre) (c .before .before .before .before .before .enum-told .given .1) _ (c .before .before .before .before .sole-range .ensures) _ _ _ _ (c .before .before .gather .ensures)
+
+same-length-2 : tie.Need-same-length-2
+same-length-2 c = search needs
+
+returns-2 : tie.Need-returns-2
+returns-2 c = list-read (c .before .before .before .before .before .before .before .before .before .before .before .before .pre) _ (c .before .before .before .before .before .before .list .given .1) _ _ _ _ (c .before .before .gather-list .ensures)
+
+pub gather-ranges-spec : {M : Type 1} → statement M
+gather-ranges-spec = tie.close (tie.spec enum-told sole-range-requires gather-requires enum-known-list gather-list-requires same-length returns same-length-2 returns-2)
