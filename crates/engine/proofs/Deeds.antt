@@ -24,7 +24,7 @@ use Rattle.rules.proofs.Laying.{laid-first}
 use Rattle.rules.proofs.Positions.{reach-old}
 use Rattle.rules.proofs.Write.{grown-length}
 use Rattle.header.specs.declared.Parsed.{Parsed}
-use Rattle.decision.specs.Decisions.{Lists, rangesIn, beyondIn}
+use Rattle.decision.specs.Decisions.{rangesIn, beyondIn}
 use Rattle.decision.proofs.Spots.{list-lies, sole-range, entry-ranges}
 use Rattle.object.proofs.Sole.{gathered-sole}
 use Rattle.object.proofs.Scattering.{reach-from}
@@ -49,22 +49,22 @@ module _ {s : Bytes} {p : Parsed} {n slice input : ℕ} (f : ForRead s p n slice
         let d : gathered o (rangesIn s p) ≡ part (g .start) (g .size) o = rw (sole-range s p e, is) (gathered-sole o (sole p)) in
         rw d (h .0, h .1 ∙ laid-first _ i)
 
-  module _ (d : Part) (e : p .found .list ≡ At d) where
-    lies : Lists s d
-    lies = list-lies s _ d (f .lists) e
+  module _ (d : Part) (e : p .found .list ≡ At d) (k : ℕ) (is : k ≡ d .size / 16) where
+    entries : rangesIn s p ≡ entriesFrom k s (d .at)
+    entries = rw is (entry-ranges s p d e)
 
-    pub list-asks : (d .at + 16 * (d .size / 16) ≤ length s) × (n ≤ slice)
-    list-asks = (omega (arith, lies .inside), f .held)
+    pub list-asks : (d .at + 16 * k ≤ length s) × (n ≤ slice)
+    list-asks = (omega (arith, is, list-lies s _ d (f .lists) e .inside), f .held)
 
-    pub list-begins : any (λ (g : Range). ltb n (g .start)) (entriesFrom (d .size / 16) s (d .at)) ≡ false
+    pub list-begins : any (λ (g : Range). ltb n (g .start)) (entriesFrom k s (d .at)) ≡ false
     unfolding beyondIn
-    list-begins = rw (entry-ranges s p d e) at (f .begins)
+    list-begins = rw entries at (f .begins)
 
-    pub list-room : total (entriesFrom (d .size / 16) s (d .at)) ≤ input
-    list-room = rw (entry-ranges s p d e) at (f .room)
+    pub list-room : total (entriesFrom k s (d .at)) ≤ input
+    list-room = rw entries at (f .room)
 
-    pub list-read : (o i j : Bytes) (k : ℕ) → Put (gathered o (entriesFrom (d .size / 16) s (d .at))) i j k → Put (gathered o (rangesIn s p)) i j k
-    list-read o i j k h = rw (entry-ranges s p d e) h
+    pub list-read : (o i j : Bytes) (c : ℕ) → Put (gathered o (entriesFrom k s (d .at))) i j c → Put (gathered o (rangesIn s p)) i j c
+    list-read o i j c h = rw entries h
 
 -- fewer bytes than LENGTH, and all of them
 module _ (s o i j : Bytes) (p : Parsed) (on : Record) (k : ℕ) (h : Put (gathered (take (on .length) o) (rangesIn s p)) i j k) where
@@ -103,18 +103,22 @@ module _ {s : Bytes} {p : Parsed} {n raised out slice : ℕ} (f : ForWrite s p n
     pub grow-asks : (n ≤ raised) × (raised ≤ slice)
     grow-asks = (rw (f .reaches) (reach-old n (rangesIn s p)), f .fits)
 
-    pub scatter-asks : (d .at + 16 * (d .size / 16) ≤ length s) × (p .segment + total (entriesFrom (d .size / 16) s (d .at)) ≤ out)
-    scatter-asks = (omega (arith, list-lies s _ d (f .lists) e .inside), rw (entry-ranges s p d e) at (f .supplied))
+    module _ (k : ℕ) (is : k ≡ d .size / 16) where
+      entries-filled : rangesIn s p ≡ entriesFrom k s (d .at)
+      entries-filled = rw is (entry-ranges s p d e)
 
-    pub scatter-reaches : (o t : Bytes) → length o ≡ slice → t ≡ grown n raised o → reach 0 (entriesFrom (d .size / 16) s (d .at)) ≤ length t
-    scatter-reaches o t l gap =
-        let long : length t ≡ slice = rw gap (grown-length n raised o (grow-asks .0) (rw l (f .fits))) ∙ l in
-        let top : raised ≡ reach n (entriesFrom (d .size / 16) s (d .at)) = rw (entry-ranges s p d e) at (f .reaches) in
-        omega (arith, long, top, f .fits, reach-from n (entriesFrom (d .size / 16) s (d .at)))
+      pub scatter-asks : (d .at + 16 * k ≤ length s) × (p .segment + total (entriesFrom k s (d .at)) ≤ out)
+      scatter-asks = (omega (arith, is, list-lies s _ d (f .lists) e .inside), rw entries-filled at (f .supplied))
 
-    pub list-written : (o t u x : Bytes) → t ≡ grown n raised o → u ≡ scattered t (entriesFrom (d .size / 16) s (d .at)) x
-        → u ≡ scattered (grown n raised o) (rangesIn s p) x
-    list-written o t u x gap h = h ∙ rw (gap, entry-ranges s p d e)
+      pub scatter-reaches : (o t : Bytes) → length o ≡ slice → t ≡ grown n raised o → reach 0 (entriesFrom k s (d .at)) ≤ length t
+      scatter-reaches o t l gap =
+          let long : length t ≡ slice = rw gap (grown-length n raised o (grow-asks .0) (rw l (f .fits))) ∙ l in
+          let top : raised ≡ reach n (entriesFrom k s (d .at)) = rw entries-filled at (f .reaches) in
+          omega (arith, long, top, f .fits, reach-from n (entriesFrom k s (d .at)))
+
+      pub list-written : (o t u x : Bytes) → t ≡ grown n raised o → u ≡ scattered t (entriesFrom k s (d .at)) x
+          → u ≡ scattered (grown n raised o) (rangesIn s p) x
+      list-written o t u x gap h = h ∙ rw (gap, entries-filled)
 
 -- ---- CLEAR
 module _ {p : Parsed} {n raised slice : ℕ} (f : ForClear p n raised slice) (g : Range) (is : g ≡ sole p) where

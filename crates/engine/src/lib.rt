@@ -4,22 +4,22 @@ use decision::Decision;
 use header::Parsed;
 use rules::Answer;
 use rules::Outcome;
+use rules::Part;
 use rules::Range;
 use rules::Record;
 use rules::Spot;
 ghost use mathlib.Core.Path.{_≡_};
 ghost use mathlib.Core.Bool.{cond};
 ghost use mathlib.Core.List.{[], _∷_, _++_};
-ghost use Prim.Native.Nat.{_-_};
+ghost use Prim.Native.Nat.{_-_, _/_};
 ghost use lib.Dec.{ltb};
 ghost use lib.ListN.{length, take, drop};
 ghost use Rattle.rules.specs.Bytes.{zeros};
 ghost use Rattle.rules.specs.Object.{gathered, scattered, grown, punched};
 ghost use Rattle.rules.specs.declared.Outcome.the-variants.{Done, Ended};
-ghost use Rattle.rules.specs.Answer.{answer, lengthened, answered};
-ghost use Rattle.header.specs.Reading.{command};
+ghost use Rattle.rules.specs.Answer.{answer, lengthened};
 ghost use Rattle.decision.specs.Decisions.{rangesIn};
-ghost use Rattle.engine.specs.Deeds.{sole, ForRead, ForWrite, ForClear, ForPunch, whole};
+ghost use Rattle.engine.specs.Deeds.{sole, ForRead, ForWrite, ForClear, ForPunch, Executes};
 
 // The range of a command without a list.
 fn sole_range(said: Parsed) -> Range
@@ -29,6 +29,13 @@ fn sole_range(said: Parsed) -> Range
         start: said.start,
         size: said.size,
     }
+}
+
+// How many entries a list's data has.
+fn entries_of(part: Part) -> usize
+    ensures { λ r. ⌜ r ≡ part .size / 16 ⌝ }
+{
+    part.size / 16
 }
 
 // The ranges' bytes, from Data-In's start on; the answer is how many they are.
@@ -48,7 +55,7 @@ fn gather_ranges(
     match list {
         Spot::Absent => object::gather(slice, logical, sole_range(said), input, 0),
         Spot::At(part) => {
-            object::gather_list(segment, part.at, part.size / 16, slice, logical, input)
+            object::gather_list(segment, part.at, entries_of(part), slice, logical, input)
         }
     }
 }
@@ -104,7 +111,7 @@ fn scatter_ranges(
         }
         Spot::At(part) => {
             object::grow(slice, logical, raised);
-            object::scatter_list(segment, part.at, part.size / 16, out, from, slice);
+            object::scatter_list(segment, part.at, entries_of(part), out, from, slice);
             return;
         }
     }
@@ -147,7 +154,7 @@ fn punch(said: Parsed, on: Record, slice: &mut [u8]) -> Answer
 
 // One command: how it ended, its count and the next record, with the slice and Data-In as it leaves them.
 pub fn execute(cdb: &[u8], out: &[u8], on: Record, slice: &mut [u8], input: &mut [u8]) -> Answer
-    ensures { λ r. ⌜ whole r (now (slice .exit)) (now (input .exit)) ≡ answered (command (now (cdb .entry)) (now (out .entry)) on) (now (slice .entry)) (now (input .entry)) ⌝ }
+    ensures { λ r. ⌜ Executes (now (cdb .entry)) (now (out .entry)) on (now (slice .entry)) (now (input .entry)) r (now (slice .exit)) (now (input .exit)) ⌝ }
 {
     let decision = decision::decide(cdb, out, on, slice.len(), input.len());
     match decision {

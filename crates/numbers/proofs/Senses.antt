@@ -1,8 +1,8 @@
 -- The two tables of the code have the book's sense at each number, and past their end there is none.
 use Prim.Native.Nat.{ℕ, zero, suc, _+_, _<_, _≤_}
-use mathlib.Core.Path.{_≡_, refl, ap, sym, subst, _∙_}
-use mathlib.Core.Bool.{Bool, true, false, cond, _&&_}
-use mathlib.Core.Option.{Option·getD, none}
+use mathlib.Core.Path.{_≡_, refl, ap, sym, _∙_}
+use mathlib.Core.Bool.{Bool, true, false, _&&_}
+use mathlib.Core.Option.{none}
 use mathlib.Core.List.{List, [], _∷_, map}
 use native.Mathlib.Nat.{add-zero, zero-add, add-suc, suc-add, le-of-suc-le-suc, not-suc-le-zero}
 use native.Mathlib.Omega.{arith}
@@ -11,7 +11,7 @@ use lib.ListN.{length, getD}
 use borrow.Author.Tests.{eqb-true, ltb-true, ne-eqb}
 use Rattle.rules.specs.Bytes.{all}
 use Rattle.rules.specs.Tests.{test, firstOf}
-use Rattle.rules.specs.Numbers.{Sense, Line, table, sense, status}
+use Rattle.rules.specs.Numbers.{Line, table, sense, status}
 
 -- ---- a rule of a table, tested at each of its entries
 and-parts : (a b : Bool) → (a && b) ≡ true → (a ≡ true) × (b ≡ true)

@@ -16,10 +16,14 @@ gather-requires c κs = sole-asks (c .before .before .before .before .before .be
 enum-known-list : tie.Need-enum-known-list
 enum-known-list c = search needs
 
+entries-of-requires : tie.Need-entries-of-requires
+entries-of-requires c κs = search needs
+
 gather-list-requires : tie.Need-gather-list-requires
 gather-list-requires c κs = let p = c .before .before .before .before .before .before .before .before .before .pre in
     let e = c .before .before .before .list .given .1 in
-    (list-asks p _ e, (list-begins p _ e, list-room p _ e))
+    let k = c .before .entries-of .ensures in
+    (list-asks p _ e _ k, (list-begins p _ e _ k, list-room p _ e _ k))
 
 same-length : tie.Need-same-length
 same-length c = search needs
@@ -31,7 +35,7 @@ same-length-2 : tie.Need-same-length-2
 same-length-2 c = search needs
 
 returns-2 : tie.Need-returns-2
-returns-2 c = list-read (c .before .before .before .before .before .before .before .before .before .before .before .before .pre) _ (c .before .before .before .before .before .before .list .given .1) _ _ _ _ (c .before .before .gather-list .ensures)
+returns-2 c = list-read (c .before .before .before .before .before .before .before .before .before .before .before .before .pre) _ (c .before .before .before .before .before .before .list .given .1) _ (c .before .before .before .before .entries-of .ensures) _ _ _ _ (c .before .before .gather-list .ensures)
 
 pub gather-ranges-spec : {M : Type 1} → statement M
-gather-ranges-spec = tie.close (tie.spec enum-told sole-range-requires gather-requires enum-known-list gather-list-requires same-length returns same-length-2 returns-2)
+gather-ranges-spec = tie.close (tie.spec enum-told sole-range-requires gather-requires enum-known-list entries-of-requires gather-list-requires same-length returns same-length-2 returns-2)
