@@ -131,7 +131,7 @@ pub fn standing_at(s: &[u8], at: usize) -> Here
     Here::Fault(Cause::Unknown)
 }
 
-fn step_from(s: &[u8], at: usize, found: Found) -> Step
+pub fn step_from(s: &[u8], at: usize, found: Found) -> Step
     ensures { λ r. ⌜ r ≡ stepped (now (s .entry)) at found ⌝ }
 {
     let list = found.list;
