@@ -8,7 +8,7 @@ use Rattle.rules.specs.declared.Spot.{Spot}
 use Rattle.rules.specs.declared.Spot.the-variants.{Absent, At}
 use Rattle.rules.specs.declared.Found.{Found}
 use Rattle.rules.specs.Bytes.{Bytes}
-use Rattle.rules.specs.Segment.{here, nothing}
+use Rattle.rules.specs.Segment.{here, next, nothing}
 use Rattle.segment.specs.declared.Step.{Step}
 use Rattle.segment.specs.declared.Step.the-variants.{Stop, On}
 use Rattle.segment.specs.Step.{stepped}
@@ -41,6 +41,11 @@ passed p (On at f) = record { at = at; found = f }
 unfoldable pub after : (steps : ℕ) → Bytes → Position → Position
 after zero s p = p
 after (suc n) s p = after n s (passed p (stepped s (p .at) (p .found)))
+
+-- where the n-th descriptor behind the one at `at` stands, by the lengths in the headers between
+unfoldable pub behind : (n : ℕ) → Bytes → (at : ℕ) → ℕ
+behind zero s at = at
+behind (suc n) s at = behind n s (next s at)
 
 -- the bytes from a position on, of which there are none past the end
 abbrev pub left : Bytes → Position → ℕ

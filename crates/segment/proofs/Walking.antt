@@ -57,7 +57,7 @@ module _ (s : Bytes) (at : ℕ) (f : Found) (h : Here) (e : h ≡ here s at) whe
   extension-ends d q = extension-here s at d (is (Extensions d) q) .0 .inside
 
 -- a step, and then the walk
-run : Step → (ℕ → Found → Walk) → Walk
+unfoldable pub run : Step → (ℕ → Found → Walk) → Walk
 run (Stop w) go = w
 run (On a g) go = go a g
 
@@ -66,7 +66,7 @@ unfolding once run
 once-met Absent at a g go = refl
 once-met (At d) at a g go = refl
 
-follow-run : (h : Here) (s : Bytes) (at : ℕ) (f : Found) (go : ℕ → Found → Walk) → follow h s at f go ≡ run (stepOf h s at f) go
+pub follow-run : (h : Here) (s : Bytes) (at : ℕ) (f : Found) (go : ℕ → Found → Walk) → follow h s at f go ≡ run (stepOf h s at f) go
 unfolding follow run
 follow-run End s at f go = refl
 follow-run (Fault k) s at f go = refl
@@ -90,7 +90,7 @@ module _ (s : Bytes) (at : ℕ) (f : Found) (r : Step) (e : r ≡ stepped s at f
   goes-on a g q = walk-run ∙ ap (λ (t : Step). run t (walkFrom (length s) s)) q
 
 -- a walk that goes on has come further, and is still inside the segment
-further : (m : Spot) (at b a : ℕ) (k g : Found) → unlessMet m at (On b k) ≡ On a g → b ≡ a
+pub further : (m : Spot) (at b a : ℕ) (k g : Found) → unlessMet m at (On b k) ≡ On a g → b ≡ a
 further Absent at b a k g q = cc
 further (At d) at b a k g q = cc
 
