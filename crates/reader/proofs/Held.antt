@@ -40,8 +40,8 @@ abbrev pub L : (κs : Lfts 1) → LL.Laws (D κs)
 L κs = T′.the-laws (namedLft 1 0 tt κs)
 
 -- the machine values of the position, of the segment, and of the reader
-abbrev pub place : Position → Val
-place p = LL.val P.the-type P′.the-laws p
+abbrev pub pos : Position → Val
+pos p = LL.val P.the-type P′.the-laws p
 
 abbrev pub lent : Reader → Val
 lent d = sliceVal (d .segment .ptr) (length (d .segment .now))
@@ -55,7 +55,7 @@ module _ {M : Type 1} (𝓤 : URA M) (H : Heap 𝓤) (A : Atoms 𝓤) (W : Given
 
   -- what the reader's two fields own, as a callee takes them
   abbrev pub Parts : Fml
-  Parts = owns (ShrSlice (named 0) κ u8 ∷ P.the-row ∷ []) (d .segment, (d .position, tt)) (lent d ∷ [], (place (d .position) ∷ [], tt))
+  Parts = owns (ShrSlice (named 0) κ u8 ∷ P.the-row ∷ []) (d .segment, (d .position, tt)) (lent d ∷ [], (pos (d .position) ∷ [], tt))
 
   -- The struct is Copy: what it owns is had twice. One copy is taken apart, and the other is kept whole.
   pub apart : ent 𝓤 (sem 𝓤 H A Own) (sep 𝓤 (sem 𝓤 H A Parts) (sem 𝓤 H A Own))
@@ -68,12 +68,12 @@ module _ {M : Type 1} (𝓤 : URA M) (H : Heap 𝓤) (A : Atoms 𝓤) (W : Given
   pub typed : Is (B (κ, tt)) d (mach κ d ∷ []) → Holds (hasTy (T′.mir (named 0)) (mach κ d)) × WT (mach κ d)
   typed p = LL.lawful (D (κ, tt)) (L (κ, tt)) 𝓤 H A W .typed d (mach κ d ∷ []) p .0
 
-  pub place-typed : Is (B (κ, tt)) d (mach κ d ∷ []) → Holds (hasTy P′.mir (place (d .position))) × WT (place (d .position))
-  place-typed p = LL.lawful P.the-type P′.the-laws 𝓤 H A W .typed (d .position) (place (d .position) ∷ []) (LL.owed (D (κ, tt)) (L (κ, tt)) d (mach κ d ∷ []) p .1 .0) .0
+  pub pos-typed : Is (B (κ, tt)) d (mach κ d ∷ []) → Holds (hasTy P′.mir (pos (d .position))) × WT (pos (d .position))
+  pos-typed p = LL.lawful P.the-type P′.the-laws 𝓤 H A W .typed (d .position) (pos (d .position) ∷ []) (LL.owed (D (κ, tt)) (L (κ, tt)) d (mach κ d ∷ []) p .1 .0) .0
 
   -- the segment's relation, out of the whole's; and the whole's, from the fields'
   pub lent-is : Is (B (κ, tt)) d (mach κ d ∷ []) → Is (ShrSlice (named 0) κ u8) (d .segment) (lent d ∷ [])
   lent-is p = LL.owed (D (κ, tt)) (L (κ, tt)) d (mach κ d ∷ []) p .0
 
-  pub made : Is (ShrSlice (named 0) κ u8) (d .segment) (lent d ∷ []) → Is P.the-row (d .position) (place (d .position) ∷ []) → Is (B (κ, tt)) d (mach κ d ∷ [])
+  pub made : Is (ShrSlice (named 0) κ u8) (d .segment) (lent d ∷ []) → Is P.the-row (d .position) (pos (d .position) ∷ []) → Is (B (κ, tt)) d (mach κ d ∷ [])
   made a b = LL.owes (D (κ, tt)) (L (κ, tt)) d (a, (b, tt))

@@ -1,3 +1,5 @@
+pub mod Asking
+pub mod Calling
 pub mod Held
 pub mod SameWalk
 pub mod Stepping
