@@ -1,7 +1,7 @@
 -- The law of the reader: n steps of it are n steps of the book's walk.
 -- `n-steps` says so of the walk over a stated number of descriptors. `the-rest` says that what is left from where n steps come to is the whole walk.
 -- From these: the same end and the same first fault, met by the reader (`same-end`, `same-fault`) and by the walk (`reaches-end`, `reaches-fault`), and the same descriptors in order (`list-stands`, `extension-stands`).
-use Prim.Native.Nat.{ℕ, zero, suc, _+_, _≤_, _<_}
+use Prim.Native.Nat.{ℕ, zero, suc, _+_, _≤_}
 use mathlib.Core.Path.{_≡_, refl, sym, ap, subst, _∙_}
 use native.Mathlib.Omega.{arith}
 use lib.ListN.{length}
@@ -15,7 +15,7 @@ use Rattle.rules.specs.declared.Found.{Found}
 use Rattle.rules.specs.declared.Walk.{Walk}
 use Rattle.rules.specs.declared.Walk.the-variants.{Whole, Broken}
 use Rattle.rules.specs.Bytes.{Bytes}
-use Rattle.rules.specs.Segment.{here, next, nothing, walkFrom, walk}
+use Rattle.rules.specs.Segment.{here, next, walkFrom, walk}
 use Rattle.segment.specs.declared.Step.{Step}
 use Rattle.segment.specs.declared.Step.the-variants.{Stop, On}
 use Rattle.segment.specs.Step.{unlessMet, stepOf, stepped}

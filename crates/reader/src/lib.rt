@@ -20,7 +20,7 @@ pub struct Reader<'a> {
 }
 
 // The first descriptor's position, with nothing found.
-pub fn first_position() -> Position
+fn first_position() -> Position
     ensures { λ r. ⌜ r ≡ start ⌝ }
 {
     Position {
@@ -33,7 +33,7 @@ pub fn first_position() -> Position
 }
 
 // What the walk meets at a position: a descriptor, the end, or a fault.
-pub fn met_at(s: &[u8], position: Position) -> Here
+fn met_at(s: &[u8], position: Position) -> Here
     ensures { λ r. ⌜ r ≡ met (now (s .entry)) position ⌝ }
 {
     let at = position.at;
@@ -49,7 +49,7 @@ pub fn met_at(s: &[u8], position: Position) -> Here
 }
 
 // The position that a walk comes to in `steps` steps. It stays where the walk stops.
-pub fn position_after(s: &[u8], position: Position, steps: usize) -> Position
+fn position_after(s: &[u8], position: Position, steps: usize) -> Position
     ensures { λ r. ⌜ r ≡ after steps (now (s .entry)) position ⌝ }
 {
     let mut at = position.at;
@@ -73,7 +73,7 @@ pub fn position_after(s: &[u8], position: Position, steps: usize) -> Position
 }
 
 // How many bytes there are from a position on: none past the end.
-pub fn left_from(s: &[u8], position: Position) -> usize
+fn left_from(s: &[u8], position: Position) -> usize
     ensures { λ r. ⌜ r ≡ left (now (s .entry)) position ⌝ }
 {
     let at = position.at;

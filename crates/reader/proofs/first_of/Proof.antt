@@ -13,7 +13,7 @@ use base.Fml.{Lft, Share, Fml, ftrue, fat, flft}
 use prog.Memory.{Memory}
 use prog.Routine.{Routine}
 use prog.Wp.{Heap, Calls, Loops, WpFn, Tables}
-use ghost.Atoms.{Atoms, sem}
+use ghost.Atoms.{Atoms}
 use contract.Monad.{Fun}
 use contract.Running.{givenOf, tables, tablesOf}
 use types.Kit.{Given, ‵, raw, _⊛_, ⋆, _$_, _∵_, !, qed, by, move, use1, use2, split, join, rewrite, fsplit, fjoin, suffices, frame, done}
@@ -21,19 +21,18 @@ use types.Part.{agg}
 use types.Run.{look, init, forget, stop, from, load, and-then, no-more, assigns, land, returns, enter, alloc1, alloc0, params1, pass1, pass0, free1, free0}
 use sound.WpLaws.{FmC, fmOf, WpFn-mono}
 use denote.RattleType.{owns}
-use denote.Laws.{Is, shows}
+use denote.Laws.{Is}
 use denote.Builtin.{u8}
 use denote.Ref.{RefT}
 use denote.Signature.{plain}
 use denote.Slice.{ShrSlice, slice-vals, shr-slice-tells, shr-slice-lawful, shr-slice-copy}
-use denote.Steps.{only, peeks, nothing}
-use denote.Struct.Laws as LL
+use denote.Steps.{only, nothing}
 use denote.Struct.Rest.{own-shut}
 use denote.Triple.Statement.{Contract, Triple}
 use denote.Triple.Entry.{onEntry}
 use denote.Triple.Spec.{Meets, tripleOf}
 use denote.Triple.Table.{entered, cited}
-use denote.Triple.Walked.{says, Stays, stay-none-slice, walkOf, goes-none-slice, Walks, ends-at, walked, walk-meets}
+use denote.Triple.Walked.{says, Stays, stay-none-slice, walkOf, goes-none-slice, ends-at, walked, walk-meets}
 use denote.Exit.{yes}
 use Rattle.reader.specs.Position.{start}
 use Rattle.reader.specs.declared.Position.{Position}
@@ -41,7 +40,7 @@ use Rattle.reader.specs.declared.Reader.{Reader}
 use Rattle.reader.proofs.Position as P
 use Rattle.reader.proofs.Position.Laws as P′
 use Rattle.reader.proofs.Calling.{clause, calls}
-use Rattle.reader.proofs.Held.{D, L, pos, lent, mach, typed, made}
+use Rattle.reader.proofs.Held.{D, L, pos, lent, mach, typed, made, pos-told, pos-is, pos-fits}
 use Rattle.reader.proofs.first_position as first-position
 use Rattle.reader.proofs.first_position.Symbol as first-position-def
 use Rattle.reader.proofs.first_position.Symbol.{name as #reader·first-position}
@@ -96,25 +95,19 @@ module _ {M : Type 1} (𝓤 : URA M) (H : Heap 𝓤) (A : Atoms 𝓤) (W : Given
         nothing ! $ nothing ! $ use2 W (raw (FirstPosition 𝓤 H A mem run .pre (to 𝓤 H A mem run))) asks $
         calls ! fm first-position.ended (first-position.clauses 𝓤 H A mem run) known (to 𝓤 H A mem run) (λ r. r ≡ start) (λ r. clause 𝓤 H A first-position.ended tt tt (r ≡ start)) (no-more !) (λ u r e is.
         -- [what the position owns; nothing; room for _2; …; _1; …; room for _0; …; the token; what the segment owns]
-        land ! (from ! (stop !)) (init ! 2 refl (LL.lawful P.the-type P′.the-laws 𝓤 H A W .typed r _ is .0)) $
-        rewrite ! 0 (λ (us : List Val). ‵ (P.the-row .own r us)) (LL.tells P.the-type P′.the-laws r (u ∷ []) is) refl $
-        rewrite ! 2 (λ (w : Val). ‵ (fat fullShare P′.mir l₂ 0 w)) (ap only (LL.tells P.the-type P′.the-laws r (u ∷ []) is)) refl $
-        peeks ! P.the-row (Is P.the-row) (shows 𝓤 H A P.the-row) r (pos r ∷ []) (λ is′.
-        assigns ! (agg ! (and-then ! (load ! (from ! (stop !)) (look ! 4 refl)) (and-then ! (load ! (from ! (stop !)) (look ! 2 refl)) (no-more !)))) (from ! (stop !)) (init ! 6 refl (typed 𝓤 H A W κ (at r) (made 𝓤 H A W κ (at r) p is′))) $
+        land ! (from ! (stop !)) (init ! 2 refl (pos-fits 𝓤 H A W r u is)) $
+        rewrite ! 0 (λ (us : List Val). ‵ (P.the-row .own r us)) (pos-told r u is) refl $
+        rewrite ! 2 (λ (w : Val). ‵ (fat fullShare P′.mir l₂ 0 w)) (ap only (pos-told r u is)) refl $
+        assigns ! (agg ! (and-then ! (load ! (from ! (stop !)) (look ! 4 refl)) (and-then ! (load ! (from ! (stop !)) (look ! 2 refl)) (no-more !)))) (from ! (stop !)) (init ! 6 refl (typed 𝓤 H A W κ (at r) (made 𝓤 H A W κ (at r) p (pos-is r u is)))) $
         returns ! (look ! 6 refl) $ forget ! 2 refl $ forget ! 4 refl $ forget ! 6 refl $ move ! (6 ∷ 7 ∷ []) $ free1 ! $ move ! (4 ∷ 5 ∷ []) $ free1 ! $ move ! (2 ∷ 3 ∷ []) $ free1 ! $ free0 ! $
-        by ! (exits r e))))))
+        by ! (exits r e)))))
 
-module _ {M : Type 1} (𝓤 : URA M) (H : Heap 𝓤) (A : Atoms 𝓤) (W : Given 𝓤 H A) (mem : Memory → SProp 𝓤) (run : Routine → Fun 𝓤) where
-  first-of-walks : (C : Calls 𝓤 H) (Λ : Loops 𝓤 H) → FmC 𝓤 H (W .laws) C → Triple 𝓤 (C #reader·first-position) (FirstPosition 𝓤 H A mem run)
-      → Walks 𝓤 H A first-of.ended stayed (WpFn 𝓤 H C Λ code.function) (first-of.clauses 𝓤 H A mem run)
-  first-of-walks C Λ fm known = walked 𝓤 H A first-of.ended stayed (first-of.clauses 𝓤 H A mem run) (WpFn 𝓤 H C Λ code.function) (λ κs. (slice-vals, tt)) (λ κs. (shr-slice-tells (named 0) (κs .0) u8, tt))
-      (λ κs qs bounds a g are. via 𝓤 _ (fst∗ 𝓤 _ (emp 𝓤)) (walk 𝓤 H A W mem run (κs .0) (qs .0) (a .0) C Λ fm known (are .0)))
-
-first-of-meets : {M : Type 1} (𝓤 : URA M) (H : Heap 𝓤) (A : Atoms 𝓤) (W : Given 𝓤 H A) (mem : Memory → SProp 𝓤) (run : Routine → Fun 𝓤) (𝓣 : Tables 𝓤 H)
-    → Triple 𝓤 (𝓣 .C #reader·first-position) (FirstPosition 𝓤 H A mem run)
-    → Meets 𝓤 H A first-of.signature (WpFn 𝓤 H (𝓣 .C) (𝓣 .Λ) code.function) (first-of.spec 𝓤 H A mem run)
-first-of-meets 𝓤 H A W mem run 𝓣 known = walk-meets 𝓤 H A first-of.ended stayed W (goes-none-slice 𝓤 H A W 1 (0 ∷ []) tt (plain (λ _. u8)) yes, tt) (first-of.clauses 𝓤 H A mem run) (WpFn 𝓤 H (𝓣 .C) (𝓣 .Λ) code.function) (WpFn-mono 𝓤 H (W .laws) 𝓣 code.function)
-    (first-of-walks 𝓤 H A W mem run (𝓣 .C) (𝓣 .Λ) (fmOf 𝓤 H (W .laws) 𝓣) known)
+module _ {M : Type 1} (𝓤 : URA M) (H : Heap 𝓤) (A : Atoms 𝓤) (W : Given 𝓤 H A) (mem : Memory → SProp 𝓤) (run : Routine → Fun 𝓤) (𝓣 : Tables 𝓤 H) where
+  first-of-meets : Triple 𝓤 (𝓣 .C #reader·first-position) (FirstPosition 𝓤 H A mem run) → Meets 𝓤 H A first-of.signature (WpFn 𝓤 H (𝓣 .C) (𝓣 .Λ) code.function) (first-of.spec 𝓤 H A mem run)
+  first-of-meets known =
+      walk-meets 𝓤 H A first-of.ended stayed W (goes-none-slice 𝓤 H A W 1 (0 ∷ []) tt (plain (λ _. u8)) yes, tt) (first-of.clauses 𝓤 H A mem run) (WpFn 𝓤 H (𝓣 .C) (𝓣 .Λ) code.function) (WpFn-mono 𝓤 H (W .laws) 𝓣 code.function)
+      (walked 𝓤 H A first-of.ended stayed (first-of.clauses 𝓤 H A mem run) (WpFn 𝓤 H (𝓣 .C) (𝓣 .Λ) code.function) (λ κs. (slice-vals, tt)) (λ κs. (shr-slice-tells (named 0) (κs .0) u8, tt))
+      (λ κs qs bounds a g are. via 𝓤 _ (fst∗ 𝓤 _ (emp 𝓤)) (walk 𝓤 H A W mem run (κs .0) (qs .0) (a .0) (𝓣 .C) (𝓣 .Λ) (fmOf 𝓤 H (W .laws) 𝓣) known (are .0))))
 
 pub first-of-spec : {M : Type 1} → stated.statement M
 unfolding code.routine tablesOf

@@ -3,8 +3,6 @@ use borrow.Author.Needs.{needs}
 use Rattle.reader.proofs.Stepping.{ending, failing, going}
 use Rattle.reader.proofs.met_at.Statement.{statement}
 use Rattle.reader.proofs.met_at.Tie as tie
-use Rattle.reader.proofs.met_at.Reads as reads
-use Rattle.reader.proofs.met_at.Lts as lts
 
 step-from-requires : tie.Need-step-from-requires
 step-from-requires c κs = search needs

@@ -21,20 +21,20 @@ use types.Part.{whole, sub, look-in, agg}
 use types.Run.{look, init, forget, stop, fld, from, load, of-opd, and-then, no-more, assigns, land, returns, enter, alloc1, alloc0, params1, pass1, pass0, free1, free0}
 use sound.WpLaws.{FmC, fmOf, WpFn-mono}
 use denote.RattleType.{owns}
-use denote.Laws.{Is, shows}
+use denote.Laws.{Is}
 use denote.Plain.{uint-vals, uint-tells, uint-makes}
 use denote.Builtin.{u8, usize}
 use denote.Ref.{now}
 use denote.Signature.{namedLft}
 use denote.Slice.{ShrSlice}
-use denote.Steps.{only, peeks, owned, nothing}
+use denote.Steps.{only, owned, nothing}
 use denote.Struct.Laws as LL
 use denote.Struct.Rest.{own-put}
 use denote.Triple.Statement.{Contract, Triple}
 use denote.Triple.Entry.{Vals, onEntry}
 use denote.Triple.Spec.{Meets, tripleOf}
 use denote.Triple.Table.{entered, cited}
-use denote.Triple.Walked.{says, Stays, stay-none, walkOf, goes-none, Walks, ends-at, walked, walk-meets}
+use denote.Triple.Walked.{says, Stays, stay-none, walkOf, goes-none, ends-at, walked, walk-meets}
 use denote.Exit.{yes}
 use Rattle.reader.specs.Position.{after}
 use Rattle.reader.specs.declared.Position.{Position}
@@ -43,7 +43,7 @@ use Rattle.reader.proofs.Reader.Laws as T′
 use Rattle.reader.proofs.Position as P
 use Rattle.reader.proofs.Position.Laws as P′
 use Rattle.reader.proofs.Calling.{clause, calls}
-use Rattle.reader.proofs.Held.{B, D, L, pos, lent, mach, Own, Parts, apart, typed, pos-typed, lent-is, made}
+use Rattle.reader.proofs.Held.{B, D, L, pos, lent, mach, Own, Parts, apart, typed, pos-typed, lent-is, made, pos-told, pos-is, pos-fits}
 use Rattle.reader.proofs.position_after as position-after
 use Rattle.reader.proofs.position_after.Symbol as position-after-def
 use Rattle.reader.proofs.position_after.Symbol.{name as #reader·position-after}
@@ -111,26 +111,20 @@ module _ {M : Type 1} (𝓤 : URA M) (H : Heap 𝓤) (A : Atoms 𝓤) (W : Given
         move ! (14 ∷ []) $ use1 W (raw (PositionAfter 𝓤 H A mem run .pre to) ⊛ ‵ (Own 𝓤 H A W κ d)) asks $ split ! $
         calls ! fm position-after.ended (position-after.clauses 𝓤 H A mem run) known to (λ r. r ≡ further) (λ r. clause 𝓤 H A position-after.ended (κ, tt) (d .segment, (d .position, (n, tt))) (r ≡ further)) (and-then ! (load ! (from ! (stop !)) (look ! 4 refl)) (and-then ! (load ! (from ! (stop !)) (look ! 2 refl)) (and-then ! (load ! (from ! (stop !)) (look ! 10 refl)) (no-more !)))) (λ u r e is.
         -- [what the new position owns; the token; what the reader owns; _6; …; _5; …; room for _4; …; _3; …; _2; …; _1; …; room for _0; …]
-        land ! (from ! (stop !)) (init ! 7 refl (LL.lawful P.the-type P′.the-laws 𝓤 H A W .typed r _ is .0)) $
-        rewrite ! 0 (λ (us : List Val). ‵ (P.the-row .own r us)) (LL.tells P.the-type P′.the-laws r (u ∷ []) is) refl $
-        rewrite ! 7 (λ (w : Val). ‵ (fat fullShare P′.mir l₄ 0 w)) (ap only (LL.tells P.the-type P′.the-laws r (u ∷ []) is)) refl $
-        peeks ! P.the-row (Is P.the-row) (shows 𝓤 H A P.the-row) r (pos r ∷ []) (λ is′.
-        assigns ! (agg ! (and-then ! (load ! (from ! (stop !)) (look ! 9 refl)) (and-then ! (load ! (from ! (stop !)) (look ! 7 refl)) (no-more !)))) (from ! (stop !)) (init ! 15 refl (typed 𝓤 H A W κ (at r) (made 𝓤 H A W κ (at r) (lent-is 𝓤 H A W κ d p) is′))) $
+        land ! (from ! (stop !)) (init ! 7 refl (pos-fits 𝓤 H A W r u is)) $
+        rewrite ! 0 (λ (us : List Val). ‵ (P.the-row .own r us)) (pos-told r u is) refl $
+        rewrite ! 7 (λ (w : Val). ‵ (fat fullShare P′.mir l₄ 0 w)) (ap only (pos-told r u is)) refl $
+        assigns ! (agg ! (and-then ! (load ! (from ! (stop !)) (look ! 9 refl)) (and-then ! (load ! (from ! (stop !)) (look ! 7 refl)) (no-more !)))) (from ! (stop !)) (init ! 15 refl (typed 𝓤 H A W κ (at r) (made 𝓤 H A W κ (at r) (lent-is 𝓤 H A W κ d p) (pos-is r u is)))) $
         returns ! (look ! 15 refl) $ forget ! 3 refl $ forget ! 5 refl $ forget ! 7 refl $ forget ! 9 refl $ forget ! 11 refl $ forget ! 13 refl $ forget ! 15 refl $
         move ! (15 ∷ 16 ∷ []) $ free1 ! $ move ! (13 ∷ 14 ∷ []) $ free1 ! $ move ! (11 ∷ 12 ∷ []) $ free1 ! $ move ! (9 ∷ 10 ∷ []) $ free1 ! $ move ! (7 ∷ 8 ∷ []) $ free1 ! $ move ! (5 ∷ 6 ∷ []) $ free1 ! $ move ! (3 ∷ 4 ∷ []) $ free1 ! $ free0 ! $
-        by ! (exits r e))))))))))
+        by ! (exits r e)))))))))
 
-module _ {M : Type 1} (𝓤 : URA M) (H : Heap 𝓤) (A : Atoms 𝓤) (W : Given 𝓤 H A) (mem : Memory → SProp 𝓤) (run : Routine → Fun 𝓤) where
-  moved-walks : (C : Calls 𝓤 H) (Λ : Loops 𝓤 H) → FmC 𝓤 H (W .laws) C → Triple 𝓤 (C #reader·position-after) (PositionAfter 𝓤 H A mem run)
-      → Walks 𝓤 H A moved.ended stayed (WpFn 𝓤 H C Λ code.function) (moved.clauses 𝓤 H A mem run)
-  moved-walks C Λ fm known = walked 𝓤 H A moved.ended stayed (moved.clauses 𝓤 H A mem run) (WpFn 𝓤 H C Λ code.function) (λ κs. (LL.vals (D κs) (L κs), (uint-vals w64, tt))) (λ κs. (LL.tells (D κs) (L κs), (uint-tells w64, tt)))
-      (λ κs qs bounds a g are. via 𝓤 _ (fst∗ 𝓤 _ (emp 𝓤)) (walk 𝓤 H A W mem run (κs .0) (qs .0) (a .0) (a .1 .0) (are .1 .0 .1) C Λ fm known (are .0)))
-
-moved-meets : {M : Type 1} (𝓤 : URA M) (H : Heap 𝓤) (A : Atoms 𝓤) (W : Given 𝓤 H A) (mem : Memory → SProp 𝓤) (run : Routine → Fun 𝓤) (𝓣 : Tables 𝓤 H)
-    → Triple 𝓤 (𝓣 .C #reader·position-after) (PositionAfter 𝓤 H A mem run)
-    → Meets 𝓤 H A moved.signature (WpFn 𝓤 H (𝓣 .C) (𝓣 .Λ) code.function) (moved.spec 𝓤 H A mem run)
-moved-meets 𝓤 H A W mem run 𝓣 known = walk-meets 𝓤 H A moved.ended stayed W (goes-none 𝓤 H A W 1 B yes (λ κs x f. refl), (goes-none 𝓤 H A W 1 (λ _. usize) yes (λ κs x f. refl), tt)) (moved.clauses 𝓤 H A mem run) (WpFn 𝓤 H (𝓣 .C) (𝓣 .Λ) code.function) (WpFn-mono 𝓤 H (W .laws) 𝓣 code.function)
-    (moved-walks 𝓤 H A W mem run (𝓣 .C) (𝓣 .Λ) (fmOf 𝓤 H (W .laws) 𝓣) known)
+module _ {M : Type 1} (𝓤 : URA M) (H : Heap 𝓤) (A : Atoms 𝓤) (W : Given 𝓤 H A) (mem : Memory → SProp 𝓤) (run : Routine → Fun 𝓤) (𝓣 : Tables 𝓤 H) where
+  moved-meets : Triple 𝓤 (𝓣 .C #reader·position-after) (PositionAfter 𝓤 H A mem run) → Meets 𝓤 H A moved.signature (WpFn 𝓤 H (𝓣 .C) (𝓣 .Λ) code.function) (moved.spec 𝓤 H A mem run)
+  moved-meets known =
+      walk-meets 𝓤 H A moved.ended stayed W (goes-none 𝓤 H A W 1 B yes (λ κs x f. refl), (goes-none 𝓤 H A W 1 (λ _. usize) yes (λ κs x f. refl), tt)) (moved.clauses 𝓤 H A mem run) (WpFn 𝓤 H (𝓣 .C) (𝓣 .Λ) code.function) (WpFn-mono 𝓤 H (W .laws) 𝓣 code.function)
+      (walked 𝓤 H A moved.ended stayed (moved.clauses 𝓤 H A mem run) (WpFn 𝓤 H (𝓣 .C) (𝓣 .Λ) code.function) (λ κs. (LL.vals (D κs) (L κs), (uint-vals w64, tt))) (λ κs. (LL.tells (D κs) (L κs), (uint-tells w64, tt)))
+      (λ κs qs bounds a g are. via 𝓤 _ (fst∗ 𝓤 _ (emp 𝓤)) (walk 𝓤 H A W mem run (κs .0) (qs .0) (a .0) (a .1 .0) (are .1 .0 .1) (𝓣 .C) (𝓣 .Λ) (fmOf 𝓤 H (W .laws) 𝓣) known (are .0))))
 
 pub moved-spec : {M : Type 1} → stated.statement M
 unfolding code.routine tablesOf

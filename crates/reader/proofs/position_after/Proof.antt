@@ -6,8 +6,6 @@ use Rattle.reader.specs.Position.{after}
 use Rattle.reader.proofs.Stepping.{no-more, stays, goes}
 use Rattle.reader.proofs.position_after.Statement.{statement}
 use Rattle.reader.proofs.position_after.Tie as tie
-use Rattle.reader.proofs.position_after.Reads as reads
-use Rattle.reader.proofs.position_after.Lts as lts
 
 abbrev Inv-loop : tie.InvT-loop
 Inv-loop s steps at₀ found₀ more₀ at found more = after steps s (record { at = at₀; found = found₀ }) ≡ after more s (record { at = at; found = found })
