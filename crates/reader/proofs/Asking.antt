@@ -1,5 +1,5 @@
 -- One walk for each function that takes a reader apart, hands its segment and its position to a covered function, and returns what that answers.
--- It is over the answer's type R, what the answer means, and the covered function's name. The two contracts and the MIR are written out over these, and a function's own are instances of them by computation.
+-- It is over the answer's type R, what the answer means, and the covered function's name. The covered function's contract, both signatures and the MIR are written out over these, and a function's own are instances of them by computation. What the function itself ensures is its own to show (`Says`).
 -- All that the walk knows of the covered function is that it meets its contract. Assumes nothing.
 use mathlib.Core.Path.{_≡_, refl}
 use Prim.Native.Nat.{ℕ}
@@ -12,6 +12,7 @@ use base.Logic.{SProp, ent, sep, emp, via, fst∗}
 use base.Fml.{Lft, Share, ftrue, flft}
 use prog.Wp.{Heap, Calls, Loops, WpFn, Tables}
 use ghost.Atoms.{Atoms, sem}
+use contract.Lifetimes.{Lfts}
 use contract.Monad.{fact}
 use types.Kit.{Given, ‵, raw, _⊛_, ⋆, _$_, _∵_, !, qed, by, move, drop, use1, use2, split, join, fsplit, fjoin, suffices, frame, done}
 use types.Part.{whole, sub, look-in}
@@ -25,17 +26,17 @@ use denote.Signature.{plain}
 use denote.Steps.{nothing}
 use denote.Struct.Laws as LL
 use denote.Triple.Statement.{Contract, Triple}
-use denote.Triple.Entry.{onEntry}
+use denote.Triple.Entry.{Args, onEntry}
 use denote.Triple.Spec.{Meets}
-use denote.Triple.Walked.{says, Stays, stay-none, walkOf, goes-none, ends-at, walked, walk-meets}
+use denote.Triple.Walked.{Stays, stay-none, walkOf, goes-none, ends-at, walked, walk-meets}
 use denote.Exit.{yes}
-use denote.Triple.Clauses.{Ended, Clauses, closing}
+use denote.Triple.Clauses.{Ended, Clauses, AtExit, closing}
 use Rattle.reader.specs.declared.Reader.{Reader}
 use Rattle.reader.specs.declared.Position.{Position}
 use Rattle.reader.proofs.Reader.Laws as T′
 use Rattle.reader.proofs.Position as P
 use Rattle.reader.proofs.Position.Laws as P′
-use Rattle.reader.proofs.Calling.{Whole, clause, calls}
+use Rattle.reader.proofs.Calling.{Whole, clause, beside, calls}
 use Rattle.reader.proofs.Held.{B, D, L, pos, lent, mach, Own, Parts, apart, typed, pos-typed}
 
 -- the MIR: the two fields are copied, and the function is called on them
@@ -78,21 +79,22 @@ module _ (R : RattleType) (mean : List ℕ → Position → R .Denot) where
     abbrev pub inner-says : Clauses 𝓤 inner
     inner-says κs a = record { ghost = Unit {0}; requires = λ g. emp 𝓤; ensures = λ g r e. fact 𝓤 (r ≡ mean (now (a .0)) (a .1 .0)) }
 
-    abbrev pub outer-says : Clauses 𝓤 outer
-    outer-says κs a = record { ghost = Unit {0}; requires = λ g. emp 𝓤; ensures = λ g r e. fact 𝓤 (r ≡ mean (now (a .0 .segment)) (a .0 .position)) }
-
     abbrev pub Inner : Contract 𝓤
     Inner = Whole 𝓤 H A inner inner-says
 
   abbrev stayed : Stays (outer .signature .params) (outer .kept)
   stayed = (stay-none B yes, tt)
 
-  module _ {M : Type 1} (𝓤 : URA M) (H : Heap 𝓤) (A : Atoms 𝓤) (W : Given 𝓤 H A) (κ : Lft) (q : Share) (d : Reader) where
+  -- what the function over a reader ensures, from what the covered one answers
+  abbrev pub Says : {M : Type 1} (𝓤 : URA M) → Clauses 𝓤 outer → Type 1
+  Says 𝓤 c = (κs : Lfts 1) (a : Args (outer .signature) κs) (g : c κs a .ghost) (r : R .Denot) (e : AtExit outer κs) → r ≡ mean (now (a .0 .segment)) (a .0 .position) → ent 𝓤 (emp 𝓤) (c κs a .ensures g r e)
+
+  module _ {M : Type 1} (𝓤 : URA M) (H : Heap 𝓤) (A : Atoms 𝓤) (W : Given 𝓤 H A) (c : Clauses 𝓤 outer) (says : Says 𝓤 c) (κ : Lft) (q : Share) (d : Reader) (g : c (κ, tt) (d, tt) .ghost) where
     abbrev answer : R .Denot
     answer = mean (now (d .segment)) (d .position)
 
     abbrev Post : Val → SProp 𝓤
-    Post = walkOf 𝓤 H A outer stayed (outer-says 𝓤 H A) .post (((κ, tt), (q, tt), tt, (d, tt), (mach κ d ∷ [], tt)), tt)
+    Post = walkOf 𝓤 H A outer stayed c .post (((κ, tt), (q, tt), tt, (d, tt), (mach κ d ∷ [], tt)), g)
 
     -- what the callee is passed
     abbrev to : Inner 𝓤 H A .Ghost
@@ -108,7 +110,7 @@ module _ (R : RattleType) (mean : List ℕ → Position → R .Denot) where
     exits : (r : R .Denot) (u : Val) → r ≡ answer → ent 𝓤 (⋆ 𝓤 H A (‵ (R .own r (u ∷ [])) ∷ (‵ (flft κ q) ⊛ ‵ ftrue) ∷ ‵ (Own 𝓤 H A W κ d) ∷ [])) (Post u)
     exits r u e =
         qed W (‵ (R .own r (u ∷ [])) ∷ (‵ (flft κ q) ⊛ ‵ ftrue) ∷ ‵ (Own 𝓤 H A W κ d) ∷ []) ∵
-        suffices ! _ (ends-at 𝓤 H A outer stayed (outer-says 𝓤 H A) W (((κ, tt), (q, tt), tt, (d, tt), (mach κ d ∷ [], tt)), tt) u r (tt, tt) (tt, tt)) $ says ! e $
+        suffices ! _ (ends-at 𝓤 H A outer stayed c W (((κ, tt), (q, tt), tt, (d, tt), (mach κ d ∷ [], tt)), g) u r (tt, tt) (tt, tt)) $ beside ! (says _ _ g r _ e) $
         move ! (1 ∷ []) $ frame ! $ nothing ! $ move ! (2 ∷ 0 ∷ []) $ fjoin ! $ frame ! $ done !
 
     module _ (ty : Ty) (fits : (r : R .Denot) (u : Val) → Is R r (u ∷ []) → Holds (hasTy ty u) × WT u)
@@ -126,9 +128,9 @@ module _ (R : RattleType) (mean : List ℕ → Position → R .Denot) where
           returns ! (look ! 9 refl) $ forget ! 3 refl $ forget ! 5 refl $ forget ! 7 refl $ forget ! 9 refl $
           move ! (9 ∷ 10 ∷ []) $ free1 ! $ move ! (7 ∷ 8 ∷ []) $ free1 ! $ move ! (5 ∷ 6 ∷ []) $ free1 ! $ move ! (3 ∷ 4 ∷ []) $ free1 ! $ free0 ! $ by ! (exits r u e))))))
 
-  module _ (ty : Ty) {M : Type 1} (𝓤 : URA M) (H : Heap 𝓤) (A : Atoms 𝓤) (W : Given 𝓤 H A) (fits : (r : R .Denot) (u : Val) → Is R r (u ∷ []) → Holds (hasTy ty u) × WT u) (𝓣 : Tables 𝓤 H) (callee : Name) where
-    pub meets : Triple 𝓤 (𝓣 .C callee) (Inner 𝓤 H A) → Meets 𝓤 H A (outer .signature) (WpFn 𝓤 H (𝓣 .C) (𝓣 .Λ) (asking callee ty)) (closing 𝓤 H A outer (outer-says 𝓤 H A))
+  module _ (ty : Ty) {M : Type 1} (𝓤 : URA M) (H : Heap 𝓤) (A : Atoms 𝓤) (W : Given 𝓤 H A) (c : Clauses 𝓤 outer) (says : Says 𝓤 c) (fits : (r : R .Denot) (u : Val) → Is R r (u ∷ []) → Holds (hasTy ty u) × WT u) (𝓣 : Tables 𝓤 H) (callee : Name) where
+    pub meets : Triple 𝓤 (𝓣 .C callee) (Inner 𝓤 H A) → Meets 𝓤 H A (outer .signature) (WpFn 𝓤 H (𝓣 .C) (𝓣 .Λ) (asking callee ty)) (closing 𝓤 H A outer c)
     meets known =
-        walk-meets 𝓤 H A outer stayed W (goes-none 𝓤 H A W 1 B yes (λ κs x f. refl), tt) (outer-says 𝓤 H A) (WpFn 𝓤 H (𝓣 .C) (𝓣 .Λ) (asking callee ty)) (WpFn-mono 𝓤 H (W .laws) 𝓣 (asking callee ty))
-        (walked 𝓤 H A outer stayed (outer-says 𝓤 H A) (WpFn 𝓤 H (𝓣 .C) (𝓣 .Λ) (asking callee ty)) (λ κs. (LL.vals (D κs) (L κs), tt)) (λ κs. (LL.tells (D κs) (L κs), tt))
-        (λ κs qs bounds a g are. via 𝓤 _ (fst∗ 𝓤 _ (emp 𝓤)) (walk 𝓤 H A W (κs .0) (qs .0) (a .0) ty fits (𝓣 .C) (𝓣 .Λ) (fmOf 𝓤 H (W .laws) 𝓣) callee known (are .0))))
+        walk-meets 𝓤 H A outer stayed W (goes-none 𝓤 H A W 1 B yes (λ κs x f. refl), tt) c (WpFn 𝓤 H (𝓣 .C) (𝓣 .Λ) (asking callee ty)) (WpFn-mono 𝓤 H (W .laws) 𝓣 (asking callee ty))
+        (walked 𝓤 H A outer stayed c (WpFn 𝓤 H (𝓣 .C) (𝓣 .Λ) (asking callee ty)) (λ κs. (LL.vals (D κs) (L κs), tt)) (λ κs. (LL.tells (D κs) (L κs), tt))
+        (λ κs qs bounds a g are. via 𝓤 _ (fst∗ 𝓤 _ (c κs a .requires g)) (walk 𝓤 H A W c says (κs .0) (qs .0) (a .0) g ty fits (𝓣 .C) (𝓣 .Λ) (fmOf 𝓤 H (W .laws) 𝓣) callee known (are .0))))
