@@ -1,5 +1,6 @@
 -- The law of the reader: n steps of it are n steps of the book's walk.
 -- `n-steps` says so of the walk over a stated number of descriptors. `the-rest` says that what is left from where n steps come to is the whole walk.
+-- `in-two-goes` and `goes-by-met` say what steps one at a time come to.
 -- From these: the same end and the same first fault, met by the reader (`same-end`, `same-fault`) and by the walk (`reaches-end`, `reaches-fault`), and the same descriptors in order (`list-stands`, `extension-stands`).
 use Prim.Native.Nat.{ℕ, zero, suc, _+_, _≤_}
 use mathlib.Core.Path.{_≡_, refl, sym, ap, subst, _∙_}
@@ -65,6 +66,15 @@ n-steps n m s p =
     (λ n p q at f e h. ap (λ (k : ℕ). walkAt k s p) (omega arith) ∙ one-step (n + suc m) s p (On at f) e ∙ h)
     n p
 
+-- steps that are taken in two goes come to where they come to at once
+pub in-two-goes : (m n : ℕ) (s : Bytes) (p : Position) → after (m + n) s p ≡ after n s (after m s p)
+in-two-goes m n s p =
+    by-steps s (λ m p q. after (m + n) s p ≡ after n s q)
+    (λ p. ap (λ (k : ℕ). after k s p) (omega arith))
+    (λ m p w e. stays s p (Stop w) (sym e) w refl (suc m + n) ∙ sym (stays s p (Stop w) (sym e) w refl n))
+    (λ m p q at f e h. ap (λ (k : ℕ). after k s p) (omega arith) ∙ moves s p (On at f) (sym e) at f refl (m + n) ∙ h)
+    m p
+
 -- what is left of the walk from there on is the whole walk
 rest-from : (n : ℕ) (s : Bytes) (p : Position) → walkAt (length s) s (after n s p) ≡ walkAt (length s) s p
 rest-from n s p =
@@ -80,7 +90,7 @@ the-rest n s = rest-from n s start
 
 -- ---- what the reader meets is the walk's step
 
-abbrev stepBy : Here → Bytes → Position → Step
+abbrev pub stepBy : Here → Bytes → Position → Step
 stepBy End s p = Stop (Whole (p .found))
 stepBy (Fault c) s p = Stop (Broken c (p .at))
 stepBy (Entries d) s p = On (next s (p .at)) (record { list = At d; extension = p .found .extension })
@@ -103,6 +113,11 @@ step-met s p = cases (here s (p .at))
     cases (Fault c) = refl
     cases (Entries d) = list (p .found .list) d
     cases (Extensions d) = extension (p .found .extension) d
+
+-- so one step goes where what is met says: behind a descriptor, with its data among what is found; it stays before the end and before a fault
+pub goes-by-met : (s : Bytes) (p : Position) → after 1 s p ≡ passed p (stepBy (met s p) s p)
+unfolding after
+goes-by-met s p = ap (passed p) (step-met s p)
 
 -- and what a step says of what was met
 says-whole : (h : Here) (s : Bytes) (p : Position) (f : Found) → stepBy h s p ≡ Stop (Whole f) → (h ≡ End) × (p .found ≡ f)
@@ -138,9 +153,9 @@ pub same-fault : (n : ℕ) (s : Bytes) (c : Cause) → met s (after n s start) �
 same-fault n s c q = stops-so n s _ (met-so s (after n s start) (Fault c) q)
 
 -- A step that goes on comes further and stays inside the segment. So as many steps as there are bytes left come to where the walk stops.
-pub record Stops (s : Bytes) (p : Position) : Type 0 where
-  pub outcome : Walk
-  pub stands : stepAt s p ≡ Stop outcome
+record Stops (s : Bytes) (p : Position) : Type 0 where
+  outcome : Walk
+  stands : stepAt s p ≡ Stop outcome
 
 at-the-end : (s : Bytes) (p : Position) → length s ≤ p .at → Stops s p
 at-the-end s p h = cases (stepAt s p) refl
@@ -173,12 +188,6 @@ pub reaches-fault : (s : Bytes) (c : Cause) (at : ℕ) → walk s ≡ Broken c a
 reaches-fault s c at q = says-broken (met s (last s)) s (last s) c at (sym (step-met s (last s)) ∙ last-stops s ∙ ap Stop q)
 
 -- ---- the same descriptors in order
-
--- one step more is a step from where n steps come to
-pub one-more : (n : ℕ) (s : Bytes) (p : Position) → after (suc n) s p ≡ passed (after n s p) (stepAt s (after n s p))
-unfolding after
-one-more zero s p = refl
-one-more (suc n) s p = one-more n s (passed p (stepAt s p))
 
 -- a reader that still goes on after n steps has passed n descriptors
 passes : (n : ℕ) (s : Bytes) (p : Position) (at : ℕ) (f : Found) → stepAt s (after n s p) ≡ On at f → after n s p .at ≡ behind n s (p .at)

@@ -1,5 +1,6 @@
-// A reader that holds a lent segment together with a position in it, and thin functions over it.
-// The work is in the functions over a plain slice and a position, which call the walk of `segment`.
+// A reader that holds a lent segment together with a position in it, and thin functions over it. Each function over the
+// struct is proved by hand, so none has a branch, a match or a loop: those are in the functions over a plain slice and a
+// position, which take their steps from `segment`.
 use rules::Found;
 use rules::Here;
 use rules::Spot;

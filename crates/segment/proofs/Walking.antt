@@ -90,7 +90,7 @@ module _ (s : Bytes) (at : ℕ) (f : Found) (r : Step) (e : r ≡ stepped s at f
   goes-on a g q = walk-run ∙ ap (λ (t : Step). run t (walkFrom (length s) s)) q
 
 -- a walk that goes on has come further, and is still inside the segment
-pub further : (m : Spot) (at b a : ℕ) (k g : Found) → unlessMet m at (On b k) ≡ On a g → b ≡ a
+further : (m : Spot) (at b a : ℕ) (k g : Found) → unlessMet m at (On b k) ≡ On a g → b ≡ a
 further Absent at b a k g q = cc
 further (At d) at b a k g q = cc
 
