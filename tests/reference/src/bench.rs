@@ -27,6 +27,11 @@ pub fn file_of(case: &Case) -> Vec<u8> {
     file([&case.cdb, &case.out, &case.record.to_bytes(), &case.slice])
 }
 
+/// The program takes a call of this size.
+pub fn takes(case: &Case) -> bool {
+    case.cdb.len() <= MOST_CDB && case.out.len() <= MOST_OUT && case.slice.len() <= MOST_SLICE
+}
+
 /// What the program prints for a file.
 pub fn line(file: &[u8]) -> String {
     match read(file) {

@@ -1,6 +1,6 @@
 //! The program's files and lines: the example of the page on scope, and each way to be bad.
 
-use reference::bench::{file, file_of, line, BAD_FILE, MOST_CDB, MOST_OUT, MOST_SLICE};
+use reference::bench::{file, file_of, line, takes, BAD_FILE, MOST_CDB, MOST_OUT, MOST_SLICE};
 use reference::capability::Capability;
 use reference::case::Case;
 use reference::record::Record;
@@ -90,4 +90,16 @@ fn a_record_of_another_size_is_bad() {
         let bad = line(&file([&[], &[], &longer[..size], &[0; 8]]));
         assert_eq!(bad == BAD_FILE, size != Record::BYTES, "{size} bytes");
     }
+}
+
+#[test]
+fn a_call_within_the_limits_is_taken() {
+    let mut case = reads(0, 0);
+    case.cdb = vec![0; MOST_CDB];
+    case.out = vec![0; MOST_OUT];
+    case.slice = vec![0; MOST_SLICE];
+    assert!(takes(&case));
+    assert_ne!(line(&file_of(&case)), BAD_FILE);
+    case.slice.push(0);
+    assert!(!takes(&case));
 }

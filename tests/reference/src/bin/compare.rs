@@ -3,10 +3,13 @@
 //! DRIVER-COMMAND is a command of the shell that starts the driver. Every line of the file VECTORS is
 //! played, then random commands and requests to the writer, and a pair of sessions for every hundred
 //! commands. The first difference ends the run: it is shown, and kept in a file that can be VECTORS
-//! of another run. The last line is the tally.
+//! of another run, and, where it is one command that isn't too large, in a file for the program
+//! `bench` as well. The last line is the tally.
 
+use reference::bench;
 use reference::compare::{Comparison, Failure};
 use reference::driver::Driver;
+use reference::face::Request;
 use reference::kept;
 use reference::random::Random;
 use std::process::ExitCode;
@@ -95,8 +98,29 @@ fn report(failure: &Failure, seed: u64) {
     for line in &failure.what {
         println!("  {line}");
     }
-    let file = format!("difference-{seed}-{}.txt", failure.label);
-    match std::fs::write(&file, failure.lines.join("\n") + "\n") {
+    let name = format!("difference-{seed}-{}", failure.label);
+    keep(
+        &format!("{name}.txt"),
+        (failure.lines.join("\n") + "\n").as_bytes(),
+    );
+    if let Some(file) = bench_file(failure) {
+        keep(&format!("{name}.bench"), &file);
+    }
+}
+
+/// A single command that isn't too large is kept for the program `bench` as well.
+fn bench_file(failure: &Failure) -> Option<Vec<u8>> {
+    let [line] = &failure.lines[..] else {
+        return None;
+    };
+    match kept::parse(line) {
+        Ok((Request::Execute(case), _)) if bench::takes(&case) => Some(bench::file_of(&case)),
+        _ => None,
+    }
+}
+
+fn keep(file: &str, content: &[u8]) {
+    match std::fs::write(file, content) {
         Ok(()) => println!("kept in {file}"),
         Err(error) => println!("{file} can't be written: {error}"),
     }
