@@ -1,0 +1,268 @@
+-- Contracts are complete: any two answers that one allows are equal, and so is what they leave in each slice and number that was lent
+-- to be written. `F.Post` is what the function F ensures, as the toolchain makes it of the source: a are its arguments, r and r′
+-- two answers, s and s′ its parameters at the return, in their order (the third is `s .1 .1 .0`). What is lent by `&` can't change.
+use Prim.Native.Nat.{ℕ}
+use mathlib.Core.Path.{_≡_, ap, sym, _∙_}
+use lib.ListN.{length-replicate}
+use denote.Ref.{RefT, now}
+use Rattle.rules.specs.declared.Here.{Here}
+use Rattle.rules.specs.Bytes.{Bytes, zeros}
+use Rattle.rules.specs.Answer.{Answered}
+use Rattle.rules.specs.Writer.{Written}
+use Rattle.reader.specs.declared.Position.{Position}
+use Rattle.reader.specs.Position.{start, met, after, left}
+use Rattle.holmweder.specs.Face.{Seen}
+use Rattle.rules.proofs.Record.with_length.Reads as with-length
+use Rattle.rules.proofs.Record.shortened.Reads as shortened
+use Rattle.wire.proofs.get16.Reads as get16
+use Rattle.wire.proofs.get32.Reads as get32
+use Rattle.wire.proofs.get64.Reads as get64
+use Rattle.wire.proofs.put16.Reads as put16
+use Rattle.wire.proofs.put32.Reads as put32
+use Rattle.wire.proofs.put64.Reads as put64
+use Rattle.ranges.proofs.sum_of.Reads as sum-of
+use Rattle.ranges.proofs.overlap.Reads as overlap
+use Rattle.segment.proofs.standing_at.Reads as standing-at
+use Rattle.segment.proofs.step_from.Reads as step-from
+use Rattle.segment.proofs.walk_over.Reads as walk-over
+use Rattle.segment.proofs.entry_at.Reads as entry-at
+use Rattle.reader.proofs.nth_of.Reads as nth-of
+use Rattle.header.proofs.read_command.Reads as read-command
+use Rattle.capability.proofs.is_match.Reads as is-match
+use Rattle.capability.proofs.is_inside.Reads as is-inside
+use Rattle.admission.proofs.is_admitted.Reads as is-admitted
+use Rattle.admission.proofs.place_that_admits.Reads as place-that-admits
+use Rattle.admission.proofs.capability_that_admits.Reads as capability-that-admits
+use Rattle.decision.proofs.decide.Reads as decide
+use Rattle.object.proofs.copy.Reads as copy
+use Rattle.object.proofs.wipe.Reads as wipe
+use Rattle.object.proofs.move_down.Reads as move-down
+use Rattle.object.proofs.grow.Reads as grow
+use Rattle.object.proofs.write_range.Reads as write-range
+use Rattle.object.proofs.clear_range.Reads as clear-range
+use Rattle.object.proofs.punch.Reads as punch
+use Rattle.object.proofs.gather.Reads as gather
+use Rattle.object.proofs.gather_list.Reads as gather-list
+use Rattle.object.proofs.scatter_list.Reads as scatter-list
+use Rattle.writer.proofs.write_command.Reads as write-command
+use Rattle.numbers.proofs.number_of.Reads as number-of
+use Rattle.numbers.proofs.sense_key.Reads as sense-key
+use Rattle.numbers.proofs.sense_code.Reads as sense-code
+use Rattle.numbers.proofs.status_of.Reads as status-of
+use Rattle.engine.proofs.execute.Reads as execute
+use Rattle.holmweder.proofs.holmweder_execute.Reads as holmweder-execute
+use Rattle.holmweder.proofs.holmweder_admission.Reads as holmweder-admission
+use Rattle.holmweder.proofs.holmweder_sense_key.Reads as holmweder-sense-key
+use Rattle.holmweder.proofs.holmweder_sense_code.Reads as holmweder-sense-code
+use Rattle.holmweder.proofs.holmweder_status.Reads as holmweder-status
+use Rattle.holmweder.proofs.holmweder_write.Reads as holmweder-write
+
+-- two answers that a promise P allows
+abbrev One : {K : Type 0} {A R S : K → Type 0} → ((κs : K) → A κs → R κs → S κs → Type 0) → Type 0
+One {K} {A} {R} {S} P = (κs : K) (a : A κs) (r r′ : R κs) (s s′ : S κs) → P κs a r s → P κs a r′ s′ → r ≡ r′
+
+-- what it lets two calls leave in a parameter, which v finds among them
+abbrev Left : {K : Type 0} {A R S : K → Type 0} → ((κs : K) → A κs → R κs → S κs → Type 0) → ((κs : K) → S κs → Bytes) → Type 0
+Left {K} {A} {R} {S} P v = (κs : K) (a : A κs) (r r′ : R κs) (s s′ : S κs) → P κs a r s → P κs a r′ s′ → v κs s ≡ v κs s′
+
+-- both
+abbrev Both : {K : Type 0} {A R S : K → Type 0} → ((κs : K) → A κs → R κs → S κs → Type 0) → ((κs : K) → S κs → Bytes) → Type 0
+Both {K} {A} {R} {S} P v = (κs : K) (a : A κs) (r r′ : R κs) (s s′ : S κs) → P κs a r s → P κs a r′ s′ → (r ≡ r′) × (v κs s ≡ v κs s′)
+
+-- ---- `rules`: the record's methods
+one-with-length : One with-length.Post
+one-with-length κs a r r′ s s′ e f = e ∙ sym f
+
+one-shortened : One shortened.Post
+one-shortened κs a r r′ s s′ e f = e ∙ sym f
+
+-- ---- `wire`: numbers on the wire
+one-get16 : One get16.Post
+one-get16 κs a r r′ s s′ e f = e ∙ sym f
+
+one-get32 : One get32.Post
+one-get32 κs a r r′ s s′ e f = e ∙ sym f
+
+one-get64 : One get64.Post
+one-get64 κs a r r′ s s′ e f = e ∙ sym f
+
+one-put16 : Left put16.Post (λ κs s. now (s .0))
+one-put16 κs a r r′ s s′ e f = e ∙ sym f
+
+one-put32 : Left put32.Post (λ κs s. now (s .0))
+one-put32 κs a r r′ s s′ e f = e ∙ sym f
+
+one-put64 : Left put64.Post (λ κs s. now (s .0))
+one-put64 κs a r r′ s s′ e f = e ∙ sym f
+
+-- ---- `ranges`: sums and shared positions
+one-sum-of : One sum-of.Post
+one-sum-of κs a r r′ s s′ e f = e (zeros (a .1 .0)) (length-replicate _ 0) ∙ sym (f (zeros (a .1 .0)) (length-replicate _ 0))
+
+one-overlap : One overlap.Post
+one-overlap κs a r r′ s s′ e f = e ∙ sym f
+
+-- ---- `segment`: the walk
+one-standing-at : One standing-at.Post
+one-standing-at κs a r r′ s s′ e f = e ∙ sym f
+
+one-step-from : One step-from.Post
+one-step-from κs a r r′ s s′ e f = e ∙ sym f
+
+one-walk-over : One walk-over.Post
+one-walk-over κs a r r′ s s′ e f = e ∙ sym f
+
+one-entry-at : One entry-at.Post
+one-entry-at κs a r r′ s s′ e f = e ∙ sym f
+
+-- ---- `reader`: the reader
+one-nth-of : One nth-of.Post
+one-nth-of κs a r r′ s s′ e f = e ∙ sym f
+
+-- Of the four functions over a `Reader` the toolchain makes no `Post`, since it holds a reference. What they ensure is
+-- written out again here, with d for the segment's bytes and v for the segment as it is held.
+one-first-of : (v : RefT Bytes) (r r′ : RefT Bytes × Position) → (r .0 ≡ v) × (r .1 ≡ start) → (r′ .0 ≡ v) × (r′ .1 ≡ start) → (r .0 ≡ r′ .0) × (r .1 ≡ r′ .1)
+one-first-of v r r′ e f = (e .0 ∙ sym (f .0), e .1 ∙ sym (f .1))
+
+one-step : (d : Bytes) (p : Position) (r r′ : Here) → r ≡ met d p → r′ ≡ met d p → r ≡ r′
+one-step d p r r′ e f = e ∙ sym f
+
+one-moved : (v : RefT Bytes) (d : Bytes) (p : Position) (n : ℕ) (r r′ : RefT Bytes × Position)
+    → (r .0 ≡ v) × (r .1 ≡ after n d p) → (r′ .0 ≡ v) × (r′ .1 ≡ after n d p) → (r .0 ≡ r′ .0) × (r .1 ≡ r′ .1)
+one-moved v d p n r r′ e f = (e .0 ∙ sym (f .0), e .1 ∙ sym (f .1))
+
+one-left-of : (d : Bytes) (p : Position) (r r′ : ℕ) → r ≡ left d p → r′ ≡ left d p → r ≡ r′
+one-left-of d p r r′ e f = e ∙ sym f
+
+-- ---- `header`: rows 2 to 8
+one-read-command : One read-command.Post
+one-read-command κs a r r′ s s′ e f = e ∙ sym f
+
+-- ---- `capability`: one capability
+one-is-match : One is-match.Post
+one-is-match κs a r r′ s s′ e f = e ∙ sym f
+
+one-is-inside : One is-inside.Post
+one-is-inside κs a r r′ s s′ e f = e ∙ sym f
+
+-- ---- `admission`: who is let in
+one-is-admitted : One is-admitted.Post
+one-is-admitted κs a r r′ s s′ e f = e ∙ sym f
+
+one-place-that-admits : One place-that-admits.Post
+one-place-that-admits κs a r r′ s s′ e f = e ∙ sym f
+
+one-capability-that-admits : (κs : _) (a : _) (r r′ : _) (s s′ : _)
+    → capability-that-admits.Post κs a r s → capability-that-admits.Post κs a r′ s′
+    → (r .now ≡ r′ .now)
+    × (r .ptr ≡ r′ .ptr)
+one-capability-that-admits κs a r r′ s s′ e f = (e .bytes ∙ sym (f .bytes), e .place ∙ sym (f .place))
+
+-- ---- `decision`: the decision
+one-decide : One decide.Post
+one-decide κs a r r′ s s′ e f = e ∙ sym f
+
+-- ---- `object`: the movers
+one-copy : Left copy.Post (λ κs s. now (s .1 .1 .1 .0))
+one-copy κs a r r′ s s′ e f = e ∙ sym f
+
+one-wipe : Left wipe.Post (λ κs s. now (s .0))
+one-wipe κs a r r′ s s′ e f = e ∙ sym f
+
+one-move-down : Left move-down.Post (λ κs s. now (s .0))
+one-move-down κs a r r′ s s′ e f = e ∙ sym f
+
+one-grow : Left grow.Post (λ κs s. now (s .0))
+one-grow κs a r r′ s s′ e f = e ∙ sym f
+
+one-write-range : Left write-range.Post (λ κs s. now (s .0))
+one-write-range κs a r r′ s s′ e f = e ∙ sym f
+
+one-clear-range : Left clear-range.Post (λ κs s. now (s .0))
+one-clear-range κs a r r′ s s′ e f = e ∙ sym f
+
+one-punch : Both punch.Post (λ κs s. now (s .0))
+one-punch κs a r r′ s s′ e f = (e .0 ∙ sym (f .0), e .1 ∙ sym (f .1))
+
+one-gather : Both gather.Post (λ κs s. now (s .1 .1 .1 .0))
+one-gather κs a r r′ s s′ e f = (e .0 ∙ sym (f .0), e .1 ∙ sym (f .1))
+
+one-gather-list : Both gather-list.Post (λ κs s. now (s .1 .1 .1 .1 .1 .0))
+one-gather-list κs a r r′ s s′ e f = (e .0 ∙ sym (f .0), e .1 ∙ sym (f .1))
+
+one-scatter-list : Left scatter-list.Post (λ κs s. now (s .1 .1 .1 .1 .1 .0))
+one-scatter-list κs a r r′ s s′ e f = e ∙ sym f
+
+-- ---- `writer`: the host's writer
+one-write-command : (κs : _) (a : _) (r r′ : _) (s s′ : _)
+    → write-command.Post κs a r s → write-command.Post κs a r′ s′
+    → (r .number ≡ r′ .number)
+    × (r .size ≡ r′ .size)
+    × (now (s .1 .1 .1 .1 .1 .1 .1 .1 .1 .0) ≡ now (s′ .1 .1 .1 .1 .1 .1 .1 .1 .1 .0))
+    × (now (s .1 .1 .1 .1 .1 .1 .1 .1 .1 .1 .0) ≡ now (s′ .1 .1 .1 .1 .1 .1 .1 .1 .1 .1 .0))
+one-write-command κs a r r′ s s′ e f = (e .number ∙ sym (f .number), e .size ∙ sym (f .size), e .cdb ∙ sym (f .cdb), e .segment ∙ sym (f .segment))
+
+-- ---- `numbers`: numbers, sense and status
+one-number-of : One number-of.Post
+one-number-of κs a r r′ s s′ e f = e ∙ sym f
+
+one-sense-key : One sense-key.Post
+one-sense-key κs a r r′ s s′ e f = e ∙ sym f
+
+one-sense-code : One sense-code.Post
+one-sense-code κs a r r′ s s′ e f = e ∙ sym f
+
+one-status-of : One status-of.Post
+one-status-of κs a r r′ s s′ e f = e ∙ sym f
+
+-- ---- `engine`: the engine
+one-execute : (κs : _) (a : _) (r r′ : _) (s s′ : _)
+    → execute.Post κs a r s → execute.Post κs a r′ s′
+    → (r ≡ r′)
+    × (now (s .1 .1 .1 .0) ≡ now (s′ .1 .1 .1 .0))
+    × (now (s .1 .1 .1 .1 .0) ≡ now (s′ .1 .1 .1 .1 .0))
+one-execute κs a r r′ s s′ e f =
+    let w = e ∙ sym f in
+    (ap (λ (x : Answered). x .answer) w, ap (λ (x : Answered). x .slice) w, ap (λ (x : Answered). x .input) w)
+
+-- ---- `holmweder`: the C face
+one-holmweder-execute : (κs : _) (a : _) (r r′ : _) (s s′ : _)
+    → holmweder-execute.Post κs a r s → holmweder-execute.Post κs a r′ s′
+    → (r ≡ r′)
+    × (now (s .1 .1 .1 .1 .1 .1 .1 .1 .0) ≡ now (s′ .1 .1 .1 .1 .1 .1 .1 .1 .0))
+    × (now (s .1 .1 .1 .1 .1 .1 .1 .1 .1 .0) ≡ now (s′ .1 .1 .1 .1 .1 .1 .1 .1 .1 .0))
+    × (now (s .1 .1 .1 .1 .1 .1 .1 .1 .1 .1 .0) ≡ now (s′ .1 .1 .1 .1 .1 .1 .1 .1 .1 .1 .0))
+    × (now (s .1 .1 .1 .1 .1 .1 .1 .1 .1 .1 .1 .0) ≡ now (s′ .1 .1 .1 .1 .1 .1 .1 .1 .1 .1 .1 .0))
+one-holmweder-execute κs a r r′ s s′ e f =
+    let w = e ∙ sym f in (
+      ap (λ (x : Seen). x .number) w,
+      ap (λ (x : Seen). x .slice) w,
+      ap (λ (x : Seen). x .input) w,
+      ap (λ (x : Seen). x .count) w,
+      ap (λ (x : Seen). x .length) w,
+    )
+
+one-holmweder-admission : (κs : _) (a : _) (r r′ : _) (s s′ : _)
+    → holmweder-admission.Post κs a r s → holmweder-admission.Post κs a r′ s′
+    → (r ≡ r′)
+    × (now (s .1 .1 .1 .1 .1 .1 .1 .1 .1 .1 .0) ≡ now (s′ .1 .1 .1 .1 .1 .1 .1 .1 .1 .1 .0))
+one-holmweder-admission κs a r r′ s s′ e f = (e .lent ∙ sym (f .lent), e .offset ∙ sym (f .offset))
+
+one-holmweder-sense-key : One holmweder-sense-key.Post
+one-holmweder-sense-key κs a r r′ s s′ e f = e ∙ sym f
+
+one-holmweder-sense-code : One holmweder-sense-code.Post
+one-holmweder-sense-code κs a r r′ s s′ e f = e ∙ sym f
+
+one-holmweder-status : One holmweder-status.Post
+one-holmweder-status κs a r r′ s s′ e f = e ∙ sym f
+
+one-holmweder-write : (κs : _) (a : _) (r r′ : _) (s s′ : _)
+    → holmweder-write.Post κs a r s → holmweder-write.Post κs a r′ s′
+    → (r ≡ r′)
+    × (now (s .1 .1 .1 .1 .1 .1 .1 .1 .1 .0) ≡ now (s′ .1 .1 .1 .1 .1 .1 .1 .1 .1 .0))
+    × (now (s .1 .1 .1 .1 .1 .1 .1 .1 .1 .1 .0) ≡ now (s′ .1 .1 .1 .1 .1 .1 .1 .1 .1 .1 .0))
+    × (now (s .1 .1 .1 .1 .1 .1 .1 .1 .1 .1 .1 .0) ≡ now (s′ .1 .1 .1 .1 .1 .1 .1 .1 .1 .1 .1 .0))
+one-holmweder-write κs a r r′ s s′ e f =
+    let w = e ∙ sym f in
+    (ap (λ (x : Written). x .number) w, ap (λ (x : Written). x .cdb) w, ap (λ (x : Written). x .segment) w, ap (λ (x : Written). x .size) w)
