@@ -6,56 +6,44 @@ use mathlib.Core.Path.{_≡_, ap, sym, subst, _∙_}
 use mathlib.Core.Bool.{Bool, true, false, not}
 use borrow.Author.Tests.{not-true, not-false}
 use Rattle.rules.specs.declared.Record.{Record}
-use Rattle.rules.specs.declared.Range.{Range}
 use Rattle.rules.specs.declared.Part.{Part}
 use Rattle.rules.specs.declared.Spot.{Spot}
 use Rattle.rules.specs.declared.Spot.the-variants.{Absent, At}
 use Rattle.rules.specs.Bytes.{Bytes, part}
-use Rattle.rules.specs.Capability.{inside}
+use Rattle.rules.specs.Capability.{matches}
 use Rattle.header.specs.declared.Parsed.{Parsed}
+use Rattle.admission.specs.declared.Asked.{Asked}
+use Rattle.admission.specs.declared.Asked.the-variants.{Matching}
 use Rattle.admission.specs.declared.Place.{Place}
 use Rattle.admission.specs.declared.Place.the-variants.{Nowhere, InCdb, InOut}
-use Rattle.admission.specs.Places.{Lying, LyingAt, Reads, matchesIn, admitsIn, anyFrom, firstFrom, firstIn, anyIn, somewhere, allSpot, admittedIn, Handed}
+use Rattle.admission.specs.Places.{Lying, LyingAt, Reads, insideOf, passesIn, firstFrom, firstIn, somewhere, allSpot, admittedIn, Handed}
 
-module _ (p : Parsed) (on : Record) (g : Range) (k : Bytes) (r : Bool) (e : r ≡ matchesIn p on k) where
-  pub no-match : not r ≡ true → false ≡ admitsIn p on g k
-  unfolding admitsIn
+module _ (p : Parsed) (on : Record) (q : Asked) (k : Bytes) (r : Bool) (e : r ≡ matches (p .verb) (p .partition) (p .object) on k) where
+  pub no-match : not r ≡ true → false ≡ passesIn p on q k
+  unfolding passesIn
   no-match h = rw (← e, not-true r h)
 
-  pub a-match : not r ≡ false → (t : Bool) → t ≡ inside g k → t ≡ admitsIn p on g k
-  unfolding admitsIn
-  a-match h t q = rw (← e, not-false r h) q
+  pub a-match : not r ≡ false → (x : Asked) → q ≡ x → (t : Bool) → t ≡ insideOf x k → t ≡ passesIn p on q k
+  unfolding passesIn
+  a-match h x f t i = rw (← e, not-false r h, f) i
 
 -- where the extension's data stands, it lies inside
 pub extension-lies : (cdb s : Bytes) (p : Parsed) (d : Part) → Reads cdb s p → p .found .extension ≡ At d → Lying 104 s d
 extension-lies cdb s p d w e = subst (λ (x : Spot). LyingAt 104 s x) e (w .extension)
 
 module _ (cdb s : Bytes) (p : Parsed) (on : Record) where
-  module _ (g : Range) (r : Bool) (e : r ≡ admitsIn p on g (part 80 104 cdb)) where
-    pub in-cdb : r ≡ true → InCdb ≡ firstIn cdb s p on g
+  module _ (q : Asked) (r : Bool) (e : r ≡ passesIn p on q (part 80 104 cdb)) where
+    pub in-cdb : r ≡ true → InCdb ≡ firstIn cdb s p on q
     unfolding firstIn
     in-cdb h = rw (← e, h)
 
-    pub in-neither : r ≡ false → p .found .extension ≡ Absent → Nowhere ≡ firstIn cdb s p on g
+    pub in-neither : r ≡ false → p .found .extension ≡ Absent → Nowhere ≡ firstIn cdb s p on q
     unfolding firstIn
-    in-neither h q = rw (← e, h, q)
+    in-neither h f = rw (← e, h, f)
 
-    pub in-extension : r ≡ false → (d : Part) → p .found .extension ≡ At d → (w : Place) → w ≡ firstFrom (admitsIn p on g) s d → w ≡ firstIn cdb s p on g
-    unfolding firstIn admitsIn matchesIn
-    in-extension h d q w f = rw (← e, h, q) f
-
-  module _ (r : Bool) (e : r ≡ matchesIn p on (part 80 104 cdb)) where
-    pub solo-matches : r ≡ true → true ≡ anyIn cdb s p on
-    unfolding anyIn
-    solo-matches h = rw (← e, h)
-
-    pub none-matches : r ≡ false → p .found .extension ≡ Absent → false ≡ anyIn cdb s p on
-    unfolding anyIn
-    none-matches h q = rw (← e, h, q)
-
-    pub extension-matches : r ≡ false → (d : Part) → p .found .extension ≡ At d → (t : Bool) → t ≡ anyFrom (matchesIn p on) s d → t ≡ anyIn cdb s p on
-    unfolding anyIn matchesIn
-    extension-matches h d q t f = rw (← e, h, q) f
+    pub in-extension : r ≡ false → (d : Part) → p .found .extension ≡ At d → (w : Place) → w ≡ firstFrom (passesIn p on q) s d → w ≡ firstIn cdb s p on q
+    unfolding firstIn passesIn
+    in-extension h d f w i = rw (← e, h, f) i
 
 -- whether there is a place
 pub place-told : (w v : Place) (t : Bool) → v ≡ w → t ≡ somewhere v → t ≡ somewhere w
@@ -65,7 +53,7 @@ place-told w v t e q = q ∙ ap somewhere e
 pub list-lies : (cdb s : Bytes) (p : Parsed) (d : Part) → Reads cdb s p → p .found .list ≡ At d → Lying 16 s d
 list-lies cdb s p d w e = subst (λ (x : Spot). LyingAt 16 s x) e (w .list)
 
-module _ (cdb s : Bytes) (p : Parsed) (on : Record) (r : Bool) (e : r ≡ anyIn cdb s p on) where
+module _ (cdb s : Bytes) (p : Parsed) (on : Record) (r : Bool) (e : r ≡ somewhere (firstIn cdb s p on Matching)) where
   pub none-fits : not r ≡ true → false ≡ admittedIn cdb s p on
   unfolding admittedIn
   none-fits h = rw (← e, not-true r h)

@@ -1,7 +1,7 @@
 -- What the searches find is what the book says of the command that was read.
 use Prim.Native.Nat.{ℕ, zero, suc, _+_, _-_, _*_, _/_, _≤_}
 use mathlib.Core.Path.{_≡_, refl, ap, sym, subst, _∙_}
-use mathlib.Core.Bool.{Bool, true, false, cond, and-true}
+use mathlib.Core.Bool.{Bool, true, false, cond, _||_, and-true}
 use mathlib.Core.Option.{Option, none, some}
 use mathlib.Core.List.{List, [], _∷_, map}
 use native.Mathlib.Omega.{arith}
@@ -26,9 +26,11 @@ use Rattle.header.specs.declared.Reading.{Reading}
 use Rattle.header.specs.declared.Reading.the-variants.{Unreadable, Readable}
 use Rattle.header.specs.Reading.{saidBy, readingOf}
 use Rattle.header.proofs.Rows.{Says, says, says-segment, unreadable, sized}
+use Rattle.admission.specs.declared.Asked.{Asked}
+use Rattle.admission.specs.declared.Asked.the-variants.{Matching, Admitting}
 use Rattle.admission.specs.declared.Place.{Place}
 use Rattle.admission.specs.declared.Place.the-variants.{Nowhere, InCdb, InOut}
-use Rattle.admission.specs.Places.{placeOf, LyingAt, Reads, matchesIn, admitsIn, anyAt, anyFrom, anySpot, anyIn, firstAt, firstFrom, firstSpot, firstIn, somewhere, allFrom, allSpot, admittedIn}
+use Rattle.admission.specs.Places.{placeOf, LyingAt, Reads, passesIn, firstAt, firstFrom, firstSpot, firstIn, somewhere, allFrom, allSpot, admittedIn}
 
 -- whether there is a place is whether there is a capability
 some-place : (o : Option Held) → isSome o ≡ somewhere (placeOf o)
@@ -39,75 +41,77 @@ some-place (some h) = go (h .lent)
     go inCdb = refl
     go inOut = refl
 
+-- some element passes exactly where there is a first one
+any-first : (f : Held → Bool) (ks : List Held) → any f ks ≡ isSome (firstOf (map (λ (k : Held). test k (f k)) ks))
+unfolding any firstOf
+any-first f [] = refl
+any-first f (k ∷ ks) = go (f k) (any-first f ks)
+  where
+    go : (b : Bool) → any f ks ≡ isSome (firstOf (map (λ (k : Held). test k (f k)) ks))
+        → (b || any f ks) ≡ isSome (cond b (some k) (firstOf (map (λ (k : Held). test k (f k)) ks)))
+    go true r = refl
+    go false r = r
+
 module _ (v : Verb) (c : Command) where
   -- what is said by a command of this verb, once it is read
   abbrev by : Parsed
   by = saidBy v (c .cdb) (found c)
 
-  fits-is : (k : Held) → fits v c k ≡ matchesIn by (c .on) (k .bytes)
-  unfolding fits matchesIn saidBy
-  fits-is k = refl
+  -- what is asked, as the book has it
+  abbrev asking : Asked → Held → Bool
+  asking Matching = fits v c
+  asking (Admitting g) = admits v c g
 
-  admits-is : (g : Range) (k : Held) → admits v c g k ≡ admitsIn by (c .on) g (k .bytes)
-  unfolding admits admitsIn fits matchesIn saidBy
-  admits-is g k = refl
+  passes-is : (q : Asked) (k : Held) → asking q k ≡ passesIn by (c .on) q (k .bytes)
+  unfolding admits passesIn fits saidBy
+  passes-is Matching k = sym (and-true _)
+  passes-is (Admitting g) k = refl
+
+  -- the first that passes, of some capabilities in their order
+  abbrev firstBy : Asked → List Held → Option Held
+  firstBy q ks = firstOf (map (λ (k : Held). test k (asking q k)) ks)
+
+  -- one more in front: k stands at w
+  chosen : (q : Asked) (k : Held) (ks : List Held) (w : Place) → placeOf (some k) ≡ w → (rest : Place) → placeOf (firstBy q ks) ≡ rest
+      → placeOf (firstBy q (k ∷ ks)) ≡ cond (passesIn by (c .on) q (k .bytes)) w rest
+  unfolding firstOf
+  chosen q k ks w is rest r = go (asking q k) (passes-is q k)
+    where
+      go : (b : Bool) → b ≡ passesIn by (c .on) q (k .bytes) → placeOf (cond b (some k) (firstBy q ks)) ≡ cond (passesIn by (c .on) q (k .bytes)) w rest
+      go true e = rw (← e) is
+      go false e = rw (← e) r
 
   -- the extension's
-  any-places : (ps : List ℕ) → any (fits v c) (map (extension c) ps) ≡ anyAt (matchesIn by (c .on)) (segment c) ps
-  unfolding any anyAt extension fits matchesIn saidBy
-  any-places [] = refl
-  any-places (a ∷ ps) = rw (any-places ps)
-
-  first-places : (g : Range) (ps : List ℕ)
-      → placeOf (firstOf (map (λ (k : Held). test k (admits v c g k)) (map (extension c) ps))) ≡ firstAt (admitsIn by (c .on) g) (segment c) ps
+  first-places : (q : Asked) (ps : List ℕ) → placeOf (firstBy q (map (extension c) ps)) ≡ firstAt (passesIn by (c .on) q) (segment c) ps
   unfolding firstOf firstAt extension
-  first-places g [] = refl
-  first-places g (a ∷ ps) = chosen (admits v c g (extension c a)) (admits-is g (extension c a)) (first-places g ps)
-    where
-      chosen : (b : Bool) → b ≡ admitsIn by (c .on) g (extension c a .bytes)
-          → placeOf (firstOf (map (λ (k : Held). test k (admits v c g k)) (map (extension c) ps))) ≡ firstAt (admitsIn by (c .on) g) (segment c) ps
-          → placeOf (cond b (some (extension c a)) (firstOf (map (λ (k : Held). test k (admits v c g k)) (map (extension c) ps))))
-          ≡ cond (admitsIn by (c .on) g (part a 104 (segment c))) (InOut a) (firstAt (admitsIn by (c .on) g) (segment c) ps)
-      chosen true e r = rw (← e)
-      chosen false e r = rw (← e) r
+  first-places q [] = refl
+  first-places q (a ∷ ps) = chosen q (extension c a) (map (extension c) ps) (InOut a) refl _ (first-places q ps)
 
-  any-spot : (x : Spot) → any (fits v c) (extensionsOf x c) ≡ anySpot (matchesIn by (c .on)) (segment c) x
-  unfolding any anyFrom
-  any-spot Absent = refl
-  any-spot (At d) = any-places (placesFrom (d .size / 104) (d .at))
-
-  first-spot : (g : Range) (x : Spot)
-      → placeOf (firstOf (map (λ (k : Held). test k (admits v c g k)) (extensionsOf x c))) ≡ firstSpot (admitsIn by (c .on) g) (segment c) x
+  first-spot : (q : Asked) (x : Spot) → placeOf (firstBy q (extensionsOf x c)) ≡ firstSpot (passesIn by (c .on) q) (segment c) x
   unfolding firstOf firstFrom
-  first-spot g Absent = refl
-  first-spot g (At d) = first-places g (placesFrom (d .size / 104) (d .at))
+  first-spot q Absent = refl
+  first-spot q (At d) = first-places q (placesFrom (d .size / 104) (d .at))
 
-  -- some capability matches
-  pub any-is : any (fits v c) (capabilities c) ≡ anyIn (c .cdb) (segment c) by (c .on)
-  unfolding any capabilities anyIn saidBy solo
-  any-is = rw (any-spot (found c .extension), fits-is (solo c))
+  -- the command's
+  first-is : (q : Asked) → placeOf (firstBy q (capabilities c)) ≡ firstIn (c .cdb) (segment c) by (c .on) q
+  unfolding capabilities firstIn solo saidBy
+  first-is q = chosen q (solo c) (extensionsOf (found c .extension) c) InCdb refl _ (first-spot q (found c .extension))
 
-  -- the first that admits a range
-  pub first-is : (g : Range) → placeOf (admitting v c g) ≡ firstIn (c .cdb) (segment c) by (c .on) g
-  unfolding admitting capabilities firstOf firstIn solo saidBy
-  first-is g = chosen (admits v c g (solo c)) (admits-is g (solo c)) (first-spot g (found c .extension))
-    where
-      chosen : (b : Bool) → b ≡ admitsIn by (c .on) g (solo c .bytes)
-          → placeOf (firstOf (map (λ (k : Held). test k (admits v c g k)) (extensionsOf (found c .extension) c)))
-          ≡ firstSpot (admitsIn by (c .on) g) (segment c) (found c .extension)
-          → placeOf (cond b (some (solo c)) (firstOf (map (λ (k : Held). test k (admits v c g k)) (extensionsOf (found c .extension) c))))
-          ≡ cond (admitsIn by (c .on) g (part 80 104 (c .cdb))) InCdb (firstSpot (admitsIn by (c .on) g) (segment c) (by .found .extension))
-      chosen true e r = rw (← e)
-      chosen false e r = rw (← e) r
+  any-is : any (fits v c) (capabilities c) ≡ somewhere (firstIn (c .cdb) (segment c) by (c .on) Matching)
+  any-is = any-first (fits v c) (capabilities c) ∙ some-place (firstBy Matching (capabilities c)) ∙ ap somewhere (first-is Matching)
+
+  admitting-is : (g : Range) → placeOf (admitting v c g) ≡ firstIn (c .cdb) (segment c) by (c .on) (Admitting g)
+  unfolding admitting
+  admitting-is g = first-is (Admitting g)
 
   -- and the command as a whole
   each-is : (gs : List Range)
-      → all (λ (g : Range). isSome (admitting v c g)) gs ≡ all (λ (g : Range). somewhere (firstIn (c .cdb) (segment c) by (c .on) g)) gs
+      → all (λ (g : Range). isSome (admitting v c g)) gs ≡ all (λ (g : Range). somewhere (firstIn (c .cdb) (segment c) by (c .on) (Admitting g))) gs
   unfolding all
   each-is [] = refl
-  each-is (g ∷ gs) = rw (some-place (admitting v c g), first-is g, each-is gs)
+  each-is (g ∷ gs) = rw (some-place (admitting v c g), admitting-is g, each-is gs)
 
-  ranges-is : (x : Spot) → all (λ (g : Range). somewhere (firstIn (c .cdb) (segment c) by (c .on) g)) (rangesOf x c) ≡ allSpot (c .cdb) (segment c) by (c .on) x
+  ranges-is : (x : Spot) → all (λ (g : Range). somewhere (firstIn (c .cdb) (segment c) by (c .on) (Admitting g))) (rangesOf x c) ≡ allSpot (c .cdb) (segment c) by (c .on) x
   unfolding all allFrom soleRange saidBy
   ranges-is Absent = and-true _
   ranges-is (At d) = refl
@@ -119,8 +123,8 @@ module _ (v : Verb) (c : Command) where
 -- ---- over a reading
 
 module _ (c : Command) (p : Parsed) (s : Says c p) where
-  pub says-first : (g : Range) → placeOf (admitting (p .verb) c g) ≡ firstIn (c .cdb) (segment c) p (c .on) g
-  says-first g = first-is (p .verb) c g ∙ ap (λ (q : Parsed). firstIn (c .cdb) (segment c) q (c .on) g) (sym (s .said))
+  pub says-first : (g : Range) → placeOf (admitting (p .verb) c g) ≡ firstIn (c .cdb) (segment c) p (c .on) (Admitting g)
+  says-first g = admitting-is (p .verb) c g ∙ ap (λ (q : Parsed). firstIn (c .cdb) (segment c) q (c .on) (Admitting g)) (sym (s .said))
 
   pub says-admitted : admitted (p .verb) c ≡ admittedIn (c .cdb) (segment c) p (c .on)
   says-admitted = admitted-is (p .verb) c ∙ ap (λ (q : Parsed). admittedIn (c .cdb) (segment c) q (c .on)) (sym (s .said))
@@ -146,7 +150,7 @@ module _ (c : Command) (p : Parsed) (s : Says c p) where
       }
 
   -- the question, of a command that was read
-  pub says-question : (g : Range) → placeOf (question c g) ≡ firstIn (c .cdb) (segment c) p (c .on) g
+  pub says-question : (g : Range) → placeOf (question c g) ≡ firstIn (c .cdb) (segment c) p (c .on) (Admitting g)
   unfolding question readable admittingFor
   says-question g = rw (s .passes, s .verb) (says-first g)
 
@@ -171,8 +175,8 @@ module _ (c : Command) (p : Parsed) (e : readingOf c ≡ Readable p) where
   pub part-admitted : (t : Bool) → t ≡ admittedIn (c .cdb) (take (p .segment - 0) (c .out)) p (c .on) → t ≡ admitted (p .verb) c
   part-admitted t q = q ∙ ap (λ (s : Bytes). admittedIn (c .cdb) s p (c .on)) part-is ∙ sym (says-admitted c p said-so)
 
-  pub part-question : (g : Range) (w : Place) → w ≡ firstIn (c .cdb) (take (p .segment - 0) (c .out)) p (c .on) g → w ≡ placeOf (question c g)
-  part-question g w q = q ∙ ap (λ (s : Bytes). firstIn (c .cdb) s p (c .on) g) part-is ∙ sym (says-question c p said-so g)
+  pub part-question : (g : Range) (w : Place) → w ≡ firstIn (c .cdb) (take (p .segment - 0) (c .out)) p (c .on) (Admitting g) → w ≡ placeOf (question c g)
+  part-question g w q = q ∙ ap (λ (s : Bytes). firstIn (c .cdb) s p (c .on) (Admitting g)) part-is ∙ sym (says-question c p said-so g)
 
 -- ---- where a capability is handed back from, there are 104 bytes
 
@@ -216,9 +220,9 @@ module _ (c : Command) (g : Range) where
       ap-length : length (segment c) ≤ length (c .out)
       ap-length = simp length-take (omega arith)
 
-      in-segment : (p : Parsed) → Says c p → firstIn (c .cdb) (segment c) p (c .on) g ≡ InOut at → at + 104 ≤ length (segment c)
-      in-segment p s q = go (admitsIn p (c .on) g (part 80 104 (c .cdb))) q
+      in-segment : (p : Parsed) → Says c p → firstIn (c .cdb) (segment c) p (c .on) (Admitting g) ≡ InOut at → at + 104 ≤ length (segment c)
+      in-segment p s q = go (passesIn p (c .on) (Admitting g) (part 80 104 (c .cdb))) q
         where
-          go : (b : Bool) → cond b InCdb (firstSpot (admitsIn p (c .on) g) (segment c) (p .found .extension)) ≡ InOut at → at + 104 ≤ length (segment c)
+          go : (b : Bool) → cond b InCdb (firstSpot (passesIn p (c .on) (Admitting g)) (segment c) (p .found .extension)) ≡ InOut at → at + 104 ≤ length (segment c)
           go true r = let z : _≡_ {A = ℕ} 0 1 = cc in absurd (omega arith)
           go false r = spot-inside _ (segment c) (p .found .extension) at (says-reads c p s .extension) r

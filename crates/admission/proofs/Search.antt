@@ -1,7 +1,7 @@
 -- The searches over the capabilities and over the list's entries, one step at a time.
 use Prim.Native.Nat.{ℕ, zero, suc, _+_, _-_, _*_, _≤_, _<_}
 use mathlib.Core.Path.{_≡_, refl, sym, _∙_}
-use mathlib.Core.Bool.{Bool, true, false, cond, _&&_, _||_}
+use mathlib.Core.Bool.{Bool, true, false, cond, _&&_}
 use mathlib.Core.List.{[], _∷_}
 use native.Mathlib.Nat.{not-suc-le-zero, add-sub-cancel-left}
 use native.Mathlib.Omega.{arith}
@@ -12,8 +12,9 @@ use Rattle.rules.specs.Bytes.{Bytes, part, all}
 use Rattle.rules.specs.Segment.{placesFrom, entryAt, entriesFrom}
 use Rattle.rules.proofs.Entries.{first-entry, no-entry}
 use Rattle.header.specs.declared.Parsed.{Parsed}
+use Rattle.admission.specs.declared.Asked.the-variants.{Admitting}
 use Rattle.admission.specs.declared.Place.the-variants.{Nowhere, InOut}
-use Rattle.admission.specs.Places.{anyAt, firstAt, firstIn, somewhere}
+use Rattle.admission.specs.Places.{firstAt, firstIn, somewhere}
 
 -- ---- places
 peel : (left from : ℕ) → 0 < left → placesFrom left from ≡ from ∷ placesFrom (left - 1) (from + 104)
@@ -35,29 +36,6 @@ piece-length s from h = rw piece (simp (length-take, length-drop) (omega arith))
 
 module _ (t : Bytes → Bool) (s : Bytes) (start n : ℕ) where
   -- what is left of the search, from a place on
-  pub record Some (from left : ℕ) : Type 0 where
-    pub rest : anyAt t s (placesFrom n start) ≡ anyAt t s (placesFrom left from)
-    pub inside : from + 104 * left ≤ length s
-
-  pub some-begun : start + 104 * n ≤ length s → Some start n
-  some-begun l = record { rest = refl; inside = l }
-
-  module _ (from left : ℕ) (i : Some from left) (more : 0 < left) (r : Bool) (e : r ≡ t (take (from + 104 - from) (drop from s))) where
-    some-split : anyAt t s (placesFrom n start) ≡ (r || anyAt t s (placesFrom (left - 1) (from + 104)))
-    unfolding anyAt
-    some-split = i .rest ∙ rw (peel left from more, e, piece s from)
-
-    pub some-hit : r ≡ true → true ≡ anyAt t s (placesFrom n start)
-    some-hit h = sym (some-split ∙ rw h)
-
-    pub some-on : r ≡ false → Some (from + 104) (left - 1)
-    some-on h = record { rest = some-split ∙ rw h; inside = omega (arith, i .inside) }
-
-  pub some-none : (from left : ℕ) → Some from left → left ≤ 0 → false ≡ anyAt t s (placesFrom n start)
-  unfolding anyAt
-  some-none from left i h = sym (i .rest ∙ rw (none-left left from h))
-
-  -- the same for the first one
   pub record First (from left : ℕ) : Type 0 where
     pub rest : firstAt t s (placesFrom n start) ≡ firstAt t s (placesFrom left from)
     pub inside : from + 104 * left ≤ length s
@@ -83,24 +61,24 @@ module _ (t : Bytes → Bool) (s : Bytes) (start n : ℕ) where
 -- ---- entries
 module _ (cdb s : Bytes) (p : Parsed) (on : Record) (start n : ℕ) where
   pub record Each (from left : ℕ) : Type 0 where
-    pub rest : all (λ (g : Range). somewhere (firstIn cdb s p on g)) (entriesFrom n s start) ≡ all (λ (g : Range). somewhere (firstIn cdb s p on g)) (entriesFrom left s from)
+    pub rest : all (λ (g : Range). somewhere (firstIn cdb s p on (Admitting g))) (entriesFrom n s start) ≡ all (λ (g : Range). somewhere (firstIn cdb s p on (Admitting g))) (entriesFrom left s from)
     pub inside : from + 16 * left ≤ length s
 
   pub each-begun : start + 16 * n ≤ length s → Each start n
   each-begun l = record { rest = refl; inside = l }
 
   module _ (from left : ℕ) (i : Each from left) (more : 0 < left) (g : Range) (k : g ≡ entryAt s from) (r : Bool)
-      (e : r ≡ somewhere (firstIn cdb s p on g)) where
-    each-split : all (λ (g : Range). somewhere (firstIn cdb s p on g)) (entriesFrom n s start) ≡ (r && all (λ (g : Range). somewhere (firstIn cdb s p on g)) (entriesFrom (left - 1) s (from + 16)))
+      (e : r ≡ somewhere (firstIn cdb s p on (Admitting g))) where
+    each-split : all (λ (g : Range). somewhere (firstIn cdb s p on (Admitting g))) (entriesFrom n s start) ≡ (r && all (λ (g : Range). somewhere (firstIn cdb s p on (Admitting g))) (entriesFrom (left - 1) s (from + 16)))
     unfolding all
     each-split = i .rest ∙ rw (first-entry s left from more, e, k)
 
-    pub each-fails : r ≡ false → false ≡ all (λ (g : Range). somewhere (firstIn cdb s p on g)) (entriesFrom n s start)
+    pub each-fails : r ≡ false → false ≡ all (λ (g : Range). somewhere (firstIn cdb s p on (Admitting g))) (entriesFrom n s start)
     each-fails h = sym (each-split ∙ rw h)
 
     pub each-on : r ≡ true → Each (from + 16) (left - 1)
     each-on h = record { rest = each-split ∙ rw h; inside = omega (arith, i .inside) }
 
-  pub each-done : (from left : ℕ) → Each from left → left ≤ 0 → true ≡ all (λ (g : Range). somewhere (firstIn cdb s p on g)) (entriesFrom n s start)
+  pub each-done : (from left : ℕ) → Each from left → left ≤ 0 → true ≡ all (λ (g : Range). somewhere (firstIn cdb s p on (Admitting g))) (entriesFrom n s start)
   unfolding all
   each-done from left i h = sym (i .rest ∙ rw (no-entry s left from h))

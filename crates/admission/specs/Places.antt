@@ -2,7 +2,7 @@
 use Prim.Native.Nat.{ℕ, _+_, _/_, _%_, _≤_}
 use mathlib.Core.Path.{_≡_}
 use denote.Ref.{RefT}
-use mathlib.Core.Bool.{Bool, true, false, cond, _&&_, _||_}
+use mathlib.Core.Bool.{Bool, true, false, cond, _&&_}
 use mathlib.Core.Option.{Option, none, some}
 use mathlib.Core.List.{List, [], _∷_}
 use lib.ListN.{length}
@@ -16,6 +16,8 @@ use Rattle.rules.specs.Segment.{placesFrom, entriesFrom}
 use Rattle.rules.specs.Capability.{matches, inside}
 use Rattle.rules.specs.Reading.{Lent, inCdb, inOut, Held}
 use Rattle.header.specs.declared.Parsed.{Parsed}
+use Rattle.admission.specs.declared.Asked.{Asked}
+use Rattle.admission.specs.declared.Asked.the-variants.{Matching, Admitting}
 use Rattle.admission.specs.declared.Place.{Place}
 use Rattle.admission.specs.declared.Place.the-variants.{Nowhere, InCdb, InOut}
 
@@ -28,12 +30,14 @@ abbrev pub placeOf : Option Held → Place
 placeOf none = Nowhere
 placeOf (some h) = placeIn (h .lent) (h .at)
 
--- a capability matches the command, and admits a range
-unfoldable pub matchesIn : Parsed → Record → (capability : Bytes) → Bool
-matchesIn p on k = matches (p .verb) (p .partition) (p .object) on k
+-- what is asked beside the match
+abbrev pub insideOf : Asked → (capability : Bytes) → Bool
+insideOf Matching k = true
+insideOf (Admitting g) k = inside g k
 
-unfoldable pub admitsIn : Parsed → Record → Range → (capability : Bytes) → Bool
-admitsIn p on g k = matchesIn p on k && inside g k
+-- a capability matches the command and, where a range is asked about, has it inside
+unfoldable pub passesIn : Parsed → Record → Asked → (capability : Bytes) → Bool
+passesIn p on q k = matches (p .verb) (p .partition) (p .object) on k && insideOf q k
 
 -- data of whole pieces of a width lies in the segment
 pub record Lying (width : ℕ) (s : Bytes) (d : Part) : Type 0 where
@@ -50,14 +54,7 @@ pub record Reads (cdb s : Bytes) (p : Parsed) : Type 0 where
   pub list : LyingAt 16 s (p .found .list)
   pub extension : LyingAt 104 s (p .found .extension)
 
--- some capability of the extension passes a test; and the first that does
-unfoldable pub anyAt : (Bytes → Bool) → Bytes → List ℕ → Bool
-anyAt t s [] = false
-anyAt t s (a ∷ ps) = t (part a 104 s) || anyAt t s ps
-
-unfoldable pub anyFrom : (Bytes → Bool) → Bytes → Part → Bool
-anyFrom t s d = anyAt t s (placesFrom (d .size / 104) (d .at))
-
+-- the first capability of the extension that passes a test
 unfoldable pub firstAt : (Bytes → Bool) → Bytes → List ℕ → Place
 firstAt t s [] = Nowhere
 firstAt t s (a ∷ ps) = cond (t (part a 104 s)) (InOut a) (firstAt t s ps)
@@ -69,17 +66,9 @@ abbrev pub firstSpot : (Bytes → Bool) → Bytes → Spot → Place
 firstSpot t s Absent = Nowhere
 firstSpot t s (At d) = firstFrom t s d
 
--- the first capability that admits a range
-unfoldable pub firstIn : (cdb s : Bytes) → Parsed → Record → Range → Place
-firstIn cdb s p on g = cond (admitsIn p on g (part 80 104 cdb)) InCdb (firstSpot (admitsIn p on g) s (p .found .extension))
-
--- some capability of the command matches
-abbrev pub anySpot : (Bytes → Bool) → Bytes → Spot → Bool
-anySpot t s Absent = false
-anySpot t s (At d) = anyFrom t s d
-
-unfoldable pub anyIn : (cdb s : Bytes) → Parsed → Record → Bool
-anyIn cdb s p on = matchesIn p on (part 80 104 cdb) || anySpot (matchesIn p on) s (p .found .extension)
+-- the first capability of the command that passes
+unfoldable pub firstIn : (cdb s : Bytes) → Parsed → Record → Asked → Place
+firstIn cdb s p on q = cond (passesIn p on q (part 80 104 cdb)) InCdb (firstSpot (passesIn p on q) s (p .found .extension))
 
 abbrev pub somewhere : Place → Bool
 somewhere Nowhere = false
@@ -88,15 +77,15 @@ somewhere (InOut at) = true
 
 -- each entry of the list is admitted
 unfoldable pub allFrom : (cdb s : Bytes) → Parsed → Record → Part → Bool
-allFrom cdb s p on d = all (λ (g : Range). somewhere (firstIn cdb s p on g)) (entriesFrom (d .size / 16) s (d .at))
+allFrom cdb s p on d = all (λ (g : Range). somewhere (firstIn cdb s p on (Admitting g))) (entriesFrom (d .size / 16) s (d .at))
 
--- the command as a whole is admitted
+-- the command as a whole is admitted: some capability matches, and each range is admitted
 abbrev pub allSpot : (cdb s : Bytes) → Parsed → Record → Spot → Bool
-allSpot cdb s p on Absent = somewhere (firstIn cdb s p on (record { start = p .start; size = p .size }))
+allSpot cdb s p on Absent = somewhere (firstIn cdb s p on (Admitting (record { start = p .start; size = p .size })))
 allSpot cdb s p on (At d) = allFrom cdb s p on d
 
 unfoldable pub admittedIn : (cdb s : Bytes) → Parsed → Record → Bool
-admittedIn cdb s p on = anyIn cdb s p on && allSpot cdb s p on (p .found .list)
+admittedIn cdb s p on = somewhere (firstIn cdb s p on Matching) && allSpot cdb s p on (p .found .list)
 
 -- the part that is handed back: its bytes, and the place where they stand; an empty part of the CDB where there is none
 abbrev pub bytesAt : Place → (cdb out : Bytes) → Bytes

@@ -12,7 +12,13 @@ ghost use lib.ListN.{length};
 ghost use Rattle.rules.specs.Admission.{admitted, question};
 ghost use Rattle.header.specs.declared.Reading.the-variants.{Readable};
 ghost use Rattle.header.specs.Reading.{command, readingOf};
-ghost use Rattle.admission.specs.Places.{Reads, Lying, matchesIn, admitsIn, anyFrom, firstFrom, firstIn, anyIn, somewhere, allFrom, admittedIn, placeOf, Handed};
+ghost use Rattle.admission.specs.Places.{Reads, Lying, passesIn, firstFrom, firstIn, somewhere, allFrom, admittedIn, placeOf, Handed};
+
+// What is asked of a capability: that it matches, or that it admits a range.
+pub enum Asked {
+    Matching,
+    Admitting(Range),
+}
 
 // Where a capability stands.
 pub enum Place {
@@ -21,52 +27,31 @@ pub enum Place {
     InOut(usize),
 }
 
-fn suits(k: &[u8], said: Parsed, on: Record) -> bool
+// Whether a capability passes: it matches and, where a range is asked about, has it inside.
+fn passes(k: &[u8], said: Parsed, on: Record, asked: Asked) -> bool
     requires { ⌜ 104 ≤ length (now k) ⌝ }
-    ensures { λ r. ⌜ r ≡ matchesIn said on (now (k .entry)) ⌝ }
+    ensures { λ r. ⌜ r ≡ passesIn said on asked (now (k .entry)) ⌝ }
 {
     let verb = said.verb;
-    capability::is_match(k, verb, said.partition, said.object, on)
-}
-
-fn admits(k: &[u8], said: Parsed, on: Record, g: Range) -> bool
-    requires { ⌜ 104 ≤ length (now k) ⌝ }
-    ensures { λ r. ⌜ r ≡ admitsIn said on g (now (k .entry)) ⌝ }
-{
-    if !suits(k, said, on) {
+    if !capability::is_match(k, verb, said.partition, said.object, on) {
         return false;
     }
-    capability::is_inside(k, g)
-}
-
-// Whether one of the extension's capabilities matches.
-fn any_suits(segment: &[u8], part: Part, said: Parsed, on: Record) -> bool
-    requires { ⌜ Lying 104 (now segment) part ⌝ }
-    ensures { λ r. ⌜ r ≡ anyFrom (matchesIn said on) (now (segment .entry)) part ⌝ }
-{
-    let mut from = part.at;
-    let mut left = part.size / 104;
-    while 0 < left {
-        let to = from + 104;
-        if suits(&segment[from..to], said, on) {
-            return true;
-        }
-        from = to;
-        left -= 1;
+    match asked {
+        Asked::Matching => true,
+        Asked::Admitting(g) => capability::is_inside(k, g),
     }
-    false
 }
 
-// The first of the extension's capabilities that admits a range.
-fn first_extension(segment: &[u8], part: Part, said: Parsed, on: Record, g: Range) -> Place
+// The first of the extension's capabilities that passes.
+fn first_extension(segment: &[u8], part: Part, said: Parsed, on: Record, asked: Asked) -> Place
     requires { ⌜ Lying 104 (now segment) part ⌝ }
-    ensures { λ r. ⌜ r ≡ firstFrom (admitsIn said on g) (now (segment .entry)) part ⌝ }
+    ensures { λ r. ⌜ r ≡ firstFrom (passesIn said on asked) (now (segment .entry)) part ⌝ }
 {
     let mut from = part.at;
     let mut untried = part.size / 104;
     while 0 < untried {
         let to = from + 104;
-        if admits(&segment[from..to], said, on, g) {
+        if passes(&segment[from..to], said, on, asked) {
             return Place::InOut(from);
         }
         from = to;
@@ -75,43 +60,27 @@ fn first_extension(segment: &[u8], part: Part, said: Parsed, on: Record, g: Rang
     Place::Nowhere
 }
 
-// The first capability that admits a range, the CDB's before the segment's.
-fn first_place(cdb: &[u8], segment: &[u8], said: Parsed, on: Record, g: Range) -> Place
+// The first capability that passes, the CDB's before the segment's.
+fn first_place(cdb: &[u8], segment: &[u8], said: Parsed, on: Record, asked: Asked) -> Place
     requires { ⌜ Reads (now cdb) (now segment) said ⌝ }
-    ensures { λ r. ⌜ r ≡ firstIn (now (cdb .entry)) (now (segment .entry)) said on g ⌝ }
+    ensures { λ r. ⌜ r ≡ firstIn (now (cdb .entry)) (now (segment .entry)) said on asked ⌝ }
 {
-    if admits(&cdb[80..184], said, on, g) {
+    if passes(&cdb[80..184], said, on, asked) {
         return Place::InCdb;
     }
     let found = said.found;
     let extension = found.extension;
     match extension {
         Spot::Absent => Place::Nowhere,
-        Spot::At(part) => first_extension(segment, part, said, on, g),
+        Spot::At(part) => first_extension(segment, part, said, on, asked),
     }
 }
 
-// Whether one of the command's capabilities matches.
-fn any_capability(cdb: &[u8], segment: &[u8], said: Parsed, on: Record) -> bool
+fn has_place(cdb: &[u8], segment: &[u8], said: Parsed, on: Record, asked: Asked) -> bool
     requires { ⌜ Reads (now cdb) (now segment) said ⌝ }
-    ensures { λ r. ⌜ r ≡ anyIn (now (cdb .entry)) (now (segment .entry)) said on ⌝ }
+    ensures { λ r. ⌜ r ≡ somewhere (firstIn (now (cdb .entry)) (now (segment .entry)) said on asked) ⌝ }
 {
-    if suits(&cdb[80..184], said, on) {
-        return true;
-    }
-    let found = said.found;
-    let extension = found.extension;
-    match extension {
-        Spot::Absent => false,
-        Spot::At(part) => any_suits(segment, part, said, on),
-    }
-}
-
-fn has_place(cdb: &[u8], segment: &[u8], said: Parsed, on: Record, g: Range) -> bool
-    requires { ⌜ Reads (now cdb) (now segment) said ⌝ }
-    ensures { λ r. ⌜ r ≡ somewhere (firstIn (now (cdb .entry)) (now (segment .entry)) said on g) ⌝ }
-{
-    let place = first_place(cdb, segment, said, on, g);
+    let place = first_place(cdb, segment, said, on, asked);
     match place {
         Place::Nowhere => false,
         Place::InCdb => true,
@@ -129,7 +98,7 @@ fn all_entries(cdb: &[u8], segment: &[u8], part: Part, said: Parsed, on: Record)
     let mut left = part.size / 16;
     while 0 < left {
         let g = segment::entry_at(segment, from);
-        if !has_place(cdb, segment, said, on, g) {
+        if !has_place(cdb, segment, said, on, Asked::Admitting(g)) {
             return false;
         }
         from = from + 16;
@@ -143,7 +112,7 @@ fn is_let_in(cdb: &[u8], segment: &[u8], said: Parsed, on: Record) -> bool
     requires { ⌜ Reads (now cdb) (now segment) said ⌝ }
     ensures { λ r. ⌜ r ≡ admittedIn (now (cdb .entry)) (now (segment .entry)) said on ⌝ }
 {
-    if !any_capability(cdb, segment, said, on) {
+    if !has_place(cdb, segment, said, on, Asked::Matching) {
         return false;
     }
     let found = said.found;
@@ -154,10 +123,10 @@ fn is_let_in(cdb: &[u8], segment: &[u8], said: Parsed, on: Record) -> bool
             segment,
             said,
             on,
-            Range {
+            Asked::Admitting(Range {
                 start: said.start,
                 size: said.size,
-            },
+            }),
         ),
         Spot::At(part) => all_entries(cdb, segment, part, said, on),
     }
@@ -181,7 +150,7 @@ pub fn place_that_admits(cdb: &[u8], out: &[u8], on: Record, g: Range) -> Place
         Reading::Unreadable(_) => Place::Nowhere,
         Reading::Readable(said) => {
             let end = said.segment;
-            first_place(cdb, &out[0..end], said, on, g)
+            first_place(cdb, &out[0..end], said, on, Asked::Admitting(g))
         }
     }
 }

@@ -1,15 +1,15 @@
 use borrow.Author.Needs.{needs}
 use native.Mathlib.Omega.{arith}
-use Rattle.admission.specs.Places.{admitsIn, firstFrom}
+use Rattle.admission.specs.Places.{passesIn, firstFrom}
 use Rattle.admission.proofs.Search.{First, first-begun, first-hit, first-on, first-none, piece-length}
 use Rattle.admission.proofs.first_extension.Statement.{statement}
 use Rattle.admission.proofs.first_extension.Tie as tie
 
 abbrev Inv-loop : tie.InvT-loop
-Inv-loop segment said on g from₀ untried₀ from untried = First (admitsIn said on g) segment from₀ untried₀ from untried
+Inv-loop segment said on asked from₀ untried₀ from untried = First (passesIn said on asked) segment from₀ untried₀ from untried
 
 abbrev μ-loop : tie.MeasureT-loop
-μ-loop segment said on g from₀ untried₀ from untried = untried
+μ-loop segment said on asked from₀ untried₀ from untried = untried
 
 loop-holds : tie.Need-loop-holds Inv-loop μ-loop
 loop-holds c = let l = c .before .before .pre .inside in first-begun _ _ _ _ (omega arith)
@@ -17,21 +17,21 @@ loop-holds c = let l = c .before .before .pre .inside in first-begun _ _ _ _ (om
 add-to : tie.Need-add-to Inv-loop μ-loop
 add-to c = search needs
 
-sub-admits : tie.Need-sub-admits Inv-loop μ-loop
-sub-admits c = search needs
+sub-passes : tie.Need-sub-passes Inv-loop μ-loop
+sub-passes c = search needs
 
-part-admits-start : tie.Need-part-admits-start Inv-loop μ-loop
-part-admits-start c = search needs
+part-passes-start : tie.Need-part-passes-start Inv-loop μ-loop
+part-passes-start c = search needs
 
-part-admits-end : tie.Need-part-admits-end Inv-loop μ-loop
-part-admits-end c = search needs
+part-passes-end : tie.Need-part-passes-end Inv-loop μ-loop
+part-passes-end c = search needs
 
-admits-requires : tie.Need-admits-requires Inv-loop μ-loop
-admits-requires c κs = let i = c .before .before .loop .inv .inside in piece-length _ (c .before .before .loop .from) (omega arith)
+passes-requires : tie.Need-passes-requires Inv-loop μ-loop
+passes-requires c κs = let i = c .before .before .loop .inv .inside in piece-length _ (c .before .before .loop .from) (omega arith)
 
 returns : tie.Need-returns Inv-loop μ-loop
 unfolding firstFrom
-returns c = first-hit _ _ _ _ _ _ (c .before .before .before .before .loop .inv) (c .before .before .before .loop-test .taken) _ (c .before .admits .ensures) (c .if1 .taken)
+returns c = first-hit _ _ _ _ _ _ (c .before .before .before .before .loop .inv) (c .before .before .before .loop-test .taken) _ (c .before .passes .ensures) (c .if1 .taken)
 
 sub-untried : tie.Need-sub-untried Inv-loop μ-loop
 sub-untried c = search needs
@@ -40,7 +40,7 @@ loop-less : tie.Need-loop-less Inv-loop μ-loop
 loop-less c = search needs
 
 loop-again : tie.Need-loop-again Inv-loop μ-loop
-loop-again c = first-on _ _ _ _ _ _ (c .before .before .before .before .loop .inv) (c .before .before .before .loop-test .taken) _ (c .before .admits .ensures) (c .if1 .left)
+loop-again c = first-on _ _ _ _ _ _ (c .before .before .before .before .loop .inv) (c .before .before .before .loop-test .taken) _ (c .before .passes .ensures) (c .if1 .left)
 
 returns-2 : tie.Need-returns-2 Inv-loop μ-loop
 unfolding firstFrom
@@ -54,10 +54,10 @@ first-extension-spec =
     μ-loop
     loop-holds
     add-to
-    sub-admits
-    part-admits-start
-    part-admits-end
-    admits-requires
+    sub-passes
+    part-passes-start
+    part-passes-end
+    passes-requires
     returns
     sub-untried
     loop-less
