@@ -9,12 +9,14 @@
 //! * [`generate`] makes random calls, [`laws`] checks answers to them, [`vectors`] keeps them as text,
 //! * [`theorems`] says answers in the language of the book of rules, to hold the two against each other,
 //! * [`compare`] holds another engine to all of this, through its C [`face`] and a [`driver`],
+//! * [`capture`] has an outside program, Wireshark, read what a writer wrote,
 //! * [`bench`] has the files of the program on standard input.
 
 pub mod admission;
 pub mod bench;
 pub mod bytes;
 pub mod capability;
+pub mod capture;
 pub mod case;
 pub mod command;
 pub mod compare;
