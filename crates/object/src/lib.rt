@@ -8,7 +8,7 @@ ghost use lib.ListN.{length, take, drop};
 ghost use lib.Dec.{ltb};
 ghost use Rattle.rules.specs.Bytes.{part, zeros, laid, any};
 ghost use Rattle.rules.specs.Ranges.{total, reach};
-ghost use Rattle.rules.specs.Segment.{entryAt, entriesFrom};
+ghost use Rattle.rules.specs.Segment.{entriesFrom};
 ghost use Rattle.rules.specs.Object.{gathered, scattered, grown, punched};
 
 // Of no bytes `start` may lie anywhere, as an empty range of a WRITE may.
@@ -128,16 +128,6 @@ pub fn gather(slice: &[u8], logical: usize, g: Range, input: &mut [u8], to: usiz
     n
 }
 
-fn entry(s: &[u8], at: usize) -> Range
-    requires { ⌜ at + 16 ≤ length (now s) ⌝ }
-    ensures { λ r. ⌜ r ≡ entryAt (now (s .entry)) at ⌝ }
-{
-    Range {
-        start: wire::get64(s, at),
-        size: wire::get64(s, at + 8),
-    }
-}
-
 // The n ranges that stand in the segment s from `at` on, in order; one that the object's end cuts short is the last.
 pub fn gather_list(
     s: &[u8],
@@ -157,7 +147,7 @@ pub fn gather_list(
     let mut left = n;
     let mut done: usize = 0;
     while 0 < left {
-        let g = entry(s, place);
+        let g = segment::entry_at(s, place);
         let got = gather(slice, logical, g, input, done);
         done += got;
         if (got as u64) < g.size {
@@ -179,7 +169,7 @@ pub fn scatter_list(s: &[u8], at: usize, n: usize, out: &[u8], from: usize, slic
     let mut left = n;
     let mut next = from;
     while 0 < left {
-        let g = entry(s, place);
+        let g = segment::entry_at(s, place);
         let size = g.size as usize;
         copy(out, next, size, slice, g.start as usize);
         next += size;

@@ -127,38 +127,16 @@ fn put8(d: &mut [u8], at: usize, x: u8)
     d[at] = x;
 }
 
-fn zero_out(d: &mut [u8], at: usize, n: usize)
-    requires { ⌜ at + n ≤ length (now d) ⌝ }
-    ensures { λ _. ⌜ now (d .exit) ≡ laid at (zeros n) (now (d .entry)) ⌝ }
-{
-    let mut i = 0;
-    while i < n {
-        d[at + i] = 0;
-        i += 1;
-    }
-}
-
-fn copy(d: &mut [u8], at: usize, s: &[u8], from: usize, n: usize)
-    requires { ⌜ (at + n ≤ length (now d)) × (from + n ≤ length (now s)) ⌝ }
-    ensures { λ _. ⌜ now (d .exit) ≡ laid at (part from n (now (s .entry))) (now (d .entry)) ⌝ }
-{
-    let mut i = 0;
-    while i < n {
-        d[at + i] = s[from + i];
-        i += 1;
-    }
-}
-
 // Bytes 0 to 15 of the CDB.
 fn put_head(cdb: &mut [u8], action: u16)
     requires { ⌜ 236 ≤ length (now cdb) ⌝ }
     ensures { λ _. ⌜ now (cdb .exit) ≡ laid 0 (cdbHead action) (now (cdb .entry)) ⌝ }
 {
     put8(cdb, 0, 0x7F);
-    zero_out(cdb, 1, 6);
+    object::wipe(cdb, 1, 6);
     put8(cdb, 7, 228);
     wire::put16(cdb, 8, action);
-    zero_out(cdb, 10, 6);
+    object::wipe(cdb, 10, 6);
 }
 
 // Bytes 16 to 79 of the CDB.
@@ -171,7 +149,7 @@ fn put_fields(cdb: &mut [u8], partition: u64, object: u64, size: u64, start: u64
     wire::put64(cdb, 32, size);
     wire::put64(cdb, 40, start);
     wire::put32(cdb, 48, continuation);
-    zero_out(cdb, 52, 28);
+    object::wipe(cdb, 52, 28);
 }
 
 // Bytes 80 to 235 of the CDB.
@@ -179,8 +157,8 @@ fn put_capability(cdb: &mut [u8], capabilities: &[u8])
     requires { ⌜ (236 ≤ length (now cdb)) × (104 ≤ length (now capabilities)) ⌝ }
     ensures { λ _. ⌜ now (cdb .exit) ≡ laid 80 (cdbCapability (now (capabilities .entry))) (now (cdb .entry)) ⌝ }
 {
-    copy(cdb, 80, capabilities, 0, 104);
-    zero_out(cdb, 184, 52);
+    object::copy(capabilities, 0, 104, cdb, 80);
+    object::wipe(cdb, 184, 52);
 }
 
 // Bytes 0 to 39 of the segment.
@@ -191,7 +169,7 @@ fn put_segment_head(segment: &mut [u8], action: u16)
     put8(segment, 0, 0x01);
     put8(segment, 1, 0);
     wire::put16(segment, 2, action);
-    zero_out(segment, 4, 36);
+    object::wipe(segment, 4, 36);
 }
 
 // A descriptor's own eight bytes.
@@ -200,7 +178,7 @@ fn put_descriptor(segment: &mut [u8], at: usize, kind: u16, size: u32)
     ensures { λ _. ⌜ now (segment .exit) ≡ laid at (toBe 2 kind ++ zeros 2 ++ toBe 4 size) (now (segment .entry)) ⌝ }
 {
     wire::put16(segment, at, kind);
-    zero_out(segment, at + 2, 2);
+    object::wipe(segment, at + 2, 2);
     wire::put32(segment, at + 4, size);
 }
 
@@ -245,7 +223,7 @@ fn put_extension(segment: &mut [u8], at: usize, capabilities: &[u8])
         return;
     }
     put_descriptor(segment, at, 0xFFEE, (size - 104) as u32);
-    copy(segment, at + 8, capabilities, 104, size - 104);
+    object::copy(capabilities, 104, size - 104, segment, at + 8);
 }
 
 // Head, list and extension, one behind the other. With neither list nor extension there is no segment.

@@ -20,8 +20,8 @@ loop-holds c =
     let start = c .before .before .before in
     gathering-none _ _ (start .pre .0 .1) _ _ _ _ (start .pre .0 .0) (start .pre .1 .0) (start .pre .1 .1)
 
-entry-requires : tie.Need-entry-requires Inv-loop μ-loop
-entry-requires c κs = omega (arith, c .before .loop .inv .inside)
+entry-at-requires : tie.Need-entry-at-requires Inv-loop μ-loop
+entry-at-requires c κs = omega (arith, c .before .loop .inv .inside)
 
 gather-requires : tie.Need-gather-requires Inv-loop μ-loop
 gather-requires c κs =
@@ -29,7 +29,7 @@ gather-requires c κs =
     let start = l .before .before .before .before in
     let a = start .args in
     let more = c .before .before .loop-test .taken in
-    let g = c .before .entry in
+    let g = c .before .entry-at in
     turn-asks (a .logical) (a .slice .now) (start .pre .0 .1) _ _ _ _ _ _ _ (g .result) more (g .ensures) (l .loop .inv)
 
 add-done : tie.Need-add-done Inv-loop μ-loop
@@ -38,7 +38,7 @@ add-done c =
     let start = l .before .before .before .before in
     let a = start .args in
     let more = c .before .before .before .before .before .loop-test .taken in
-    let g = c .before .before .before .before .entry in
+    let g = c .before .before .before .before .entry-at in
     let got = c .before .before .gather in
     let fits = turn-fits (a .logical) (a .slice .now) (start .pre .0 .1) _ _ _ _ _ _ _ (g .result) more (g .ensures) (l .loop .inv) in
     omega (arith, fits (got .result) (got .ensures .0))
@@ -54,7 +54,7 @@ returns c =
     let start = l .before .before .before .before in
     let a = start .args in
     let more = c .before .before .before .before .before .before .before .loop-test .taken in
-    let g = c .before .before .before .before .before .before .entry in
+    let g = c .before .before .before .before .before .before .entry-at in
     let got = c .before .before .before .before .gather in
     turn-last (a .logical) (a .slice .now) (start .pre .0 .1) _ _ _ _ _ _ _ (g .result) more (g .ensures) (l .loop .inv)
     (got .result) _ (got .ensures .0) (got .ensures .1) (c .if1 .taken)
@@ -74,7 +74,7 @@ loop-again c =
     let start = l .before .before .before .before in
     let a = start .args in
     let more = c .before .before .before .before .before .before .before .loop-test .taken in
-    let g = c .before .before .before .before .before .before .entry in
+    let g = c .before .before .before .before .before .before .entry-at in
     let got = c .before .before .before .before .gather in
     turn-more (a .logical) (a .slice .now) (start .pre .0 .1) _ _ _ _ _ _ _ (g .result) more (g .ensures) (l .loop .inv)
     (got .result) _ (got .ensures .0) (got .ensures .1) (c .if1 .left)
@@ -96,7 +96,7 @@ gather-list-spec =
     Inv-loop
     μ-loop
     loop-holds
-    entry-requires
+    entry-at-requires
     gather-requires
     add-done
     same-length

@@ -18,21 +18,21 @@ loop-holds c =
     let start = c .before .before .before in
     scattering-none _ _ _ _ _ _ (start .pre .0 .0) (start .pre .1) (start .pre .0 .1)
 
-entry-requires : tie.Need-entry-requires Inv-loop μ-loop
-entry-requires c κs = omega (arith, c .before .loop .inv .inside)
+entry-at-requires : tie.Need-entry-at-requires Inv-loop μ-loop
+entry-at-requires c κs = omega (arith, c .before .loop .inv .inside)
 
 copy-requires : tie.Need-copy-requires Inv-loop μ-loop
 copy-requires c κs =
     let l = c .before .before .before in
     let more = c .before .before .loop-test .taken in
-    let g = c .before .entry in
+    let g = c .before .entry-at in
     turn-asks _ _ _ _ _ _ _ _ _ (g .result) more (g .ensures) (l .loop .inv)
 
 add-next : tie.Need-add-next Inv-loop μ-loop
 add-next c =
     let l = c .before .before .before .before .before .before in
     let more = c .before .before .before .before .before .loop-test .taken in
-    let g = c .before .before .before .before .entry in
+    let g = c .before .before .before .before .entry-at in
     omega (arith, turn-asks _ _ _ _ _ _ _ _ _ (g .result) more (g .ensures) (l .loop .inv) .0)
 
 add-place : tie.Need-add-place Inv-loop μ-loop
@@ -48,7 +48,7 @@ loop-again : tie.Need-loop-again Inv-loop μ-loop
 loop-again c =
     let l = c .before .before .before .before .before .before in
     let more = c .before .before .before .before .before .loop-test .taken in
-    let g = c .before .before .before .before .entry in
+    let g = c .before .before .before .before .entry-at in
     let laid = c .before .before .copy in
     turn _ _ _ _ _ _ _ _ _ (g .result) more (g .ensures) (l .loop .inv) _ (laid .kept .1 .1 .1 .0) (laid .ensures)
 
@@ -65,7 +65,7 @@ scatter-list-spec =
     Inv-loop
     μ-loop
     loop-holds
-    entry-requires
+    entry-at-requires
     copy-requires
     add-next
     add-place

@@ -10,8 +10,8 @@ use Rattle.writer.proofs.put_capability.Tie as tie
 copy-requires : tie.Need-copy-requires
 copy-requires c κs = search needs
 
-zero-out-requires : tie.Need-zero-out-requires
-zero-out-requires c κs = search needs
+wipe-requires : tie.Need-wipe-requires
+wipe-requires c κs = search needs
 
 same-length : tie.Need-same-length
 same-length c = search needs
@@ -23,7 +23,7 @@ returns c =
     let a = b .before .before .before .before in
     let s = a .before .before .before .before in
     let first = first-piece _ _ (length-part 0 104 (s .args .capabilities .now) (s .pre .1)) (a .copy .ensures) (omega (arith, s .pre)) in
-    next-piece _ first refl refl (b .zero-out .ensures) .is
+    next-piece _ first refl refl (b .wipe .ensures) .is
 
 pub put-capability-spec : {M : Type 1} → statement M
-put-capability-spec = tie.close (tie.spec copy-requires zero-out-requires same-length returns)
+put-capability-spec = tie.close (tie.spec copy-requires wipe-requires same-length returns)

@@ -10,11 +10,11 @@ use Rattle.writer.proofs.put_descriptor.Tie as tie
 put16-requires : tie.Need-put16-requires
 put16-requires c κs = search needs
 
-add-zero-out : tie.Need-add-zero-out
-add-zero-out c = search needs
+add-wipe : tie.Need-add-wipe
+add-wipe c = search needs
 
-zero-out-requires : tie.Need-zero-out-requires
-zero-out-requires c κs = search needs
+wipe-requires : tie.Need-wipe-requires
+wipe-requires c κs = search needs
 
 add-put32 : tie.Need-add-put32
 add-put32 c = search needs
@@ -32,7 +32,7 @@ returns c =
     let a = b .before .before .before .before in
     let r = a .before .before .before in
     let p₁ = first-piece _ _ (length-toBe 2 _) (a .put16 .ensures) (omega (arith, r .pre)) in
-    let p₂ = next-piece _ p₁ refl refl (b .zero-out .ensures) in
+    let p₂ = next-piece _ p₁ refl refl (b .wipe .ensures) in
     next-piece _ p₂ refl (length-toBe 4 _) (d .put32 .ensures) .is
 
 pub put-descriptor-spec : {M : Type 1} → statement M
@@ -40,8 +40,8 @@ put-descriptor-spec =
     tie.close
     (tie.spec
     put16-requires
-    add-zero-out
-    zero-out-requires
+    add-wipe
+    wipe-requires
     add-put32
     put32-requires
     same-length

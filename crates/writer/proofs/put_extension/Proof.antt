@@ -20,11 +20,11 @@ put-descriptor-requires c κs =
     let s = e .before .before .before in
     omega (arith, s .pre, extension-size (s .args .capabilities .now) (e .if1 .left))
 
-add-copy : tie.Need-add-copy
-add-copy c = search needs
-
 sub-copy : tie.Need-sub-copy
 sub-copy c = search needs
+
+add-copy : tie.Need-add-copy
+add-copy c = search needs
 
 copy-requires : tie.Need-copy-requires
 copy-requires c κs =
@@ -51,8 +51,8 @@ put-extension-spec =
     sub-put-descriptor
     cast-put-descriptor
     put-descriptor-requires
-    add-copy
     sub-copy
+    add-copy
     copy-requires
     same-length
     returns-2)

@@ -23,8 +23,8 @@ put64-requires-4 c κs = search needs
 put32-requires : tie.Need-put32-requires
 put32-requires c κs = search needs
 
-zero-out-requires : tie.Need-zero-out-requires
-zero-out-requires c κs = search needs
+wipe-requires : tie.Need-wipe-requires
+wipe-requires c κs = search needs
 
 same-length : tie.Need-same-length
 same-length c = search needs
@@ -43,7 +43,7 @@ returns c =
     let p₃ = next-piece _ p₂ refl (length-toBe 8 _) (b .put643 .ensures) in
     let p₄ = next-piece _ p₃ refl (length-toBe 8 _) (d .put644 .ensures) in
     let p₅ = next-piece _ p₄ refl (length-toBe 4 _) (e .put32 .ensures) in
-    next-piece _ p₅ refl refl (f .zero-out .ensures) .is
+    next-piece _ p₅ refl refl (f .wipe .ensures) .is
 
 pub put-fields-spec : {M : Type 1} → statement M
 put-fields-spec =
@@ -54,6 +54,6 @@ put-fields-spec =
     put64-requires-3
     put64-requires-4
     put32-requires
-    zero-out-requires
+    wipe-requires
     same-length
     returns)

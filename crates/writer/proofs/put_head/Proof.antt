@@ -11,8 +11,8 @@ use Rattle.writer.proofs.put_head.Tie as tie
 put8-requires : tie.Need-put8-requires
 put8-requires c κs = search needs
 
-zero-out-requires : tie.Need-zero-out-requires
-zero-out-requires c κs = search needs
+wipe-requires : tie.Need-wipe-requires
+wipe-requires c κs = search needs
 
 put8-requires-2 : tie.Need-put8-requires-2
 put8-requires-2 c κs = search needs
@@ -20,8 +20,8 @@ put8-requires-2 c κs = search needs
 put16-requires : tie.Need-put16-requires
 put16-requires c κs = search needs
 
-zero-out-requires-2 : tie.Need-zero-out-requires-2
-zero-out-requires-2 c κs = search needs
+wipe-requires-2 : tie.Need-wipe-requires-2
+wipe-requires-2 c κs = search needs
 
 same-length : tie.Need-same-length
 same-length c = search needs
@@ -35,19 +35,19 @@ returns c =
     let a = b .before .before .before .before in
     let z = a .before .before .before .before in
     let p₁ = first-piece _ _ refl (z .put8 .ensures) zero-le in
-    let p₂ = next-piece _ p₁ refl refl (a .zero-out .ensures) in
+    let p₂ = next-piece _ p₁ refl refl (a .wipe .ensures) in
     let p₃ = next-piece _ p₂ refl refl (b .put82 .ensures) in
     let p₄ = next-piece _ p₃ refl (length-toBe 2 _) (d .put16 .ensures) in
-    next-piece _ p₄ refl refl (e .zero-out2 .ensures) .is
+    next-piece _ p₄ refl refl (e .wipe2 .ensures) .is
 
 pub put-head-spec : {M : Type 1} → statement M
 put-head-spec =
     tie.close
     (tie.spec
     put8-requires
-    zero-out-requires
+    wipe-requires
     put8-requires-2
     put16-requires
-    zero-out-requires-2
+    wipe-requires-2
     same-length
     returns)

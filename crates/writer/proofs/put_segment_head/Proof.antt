@@ -17,8 +17,8 @@ put8-requires-2 c κs = search needs
 put16-requires : tie.Need-put16-requires
 put16-requires c κs = search needs
 
-zero-out-requires : tie.Need-zero-out-requires
-zero-out-requires c κs = search needs
+wipe-requires : tie.Need-wipe-requires
+wipe-requires c κs = search needs
 
 same-length : tie.Need-same-length
 same-length c = search needs
@@ -33,9 +33,9 @@ returns c =
     let p₁ = first-piece _ _ refl (z .put8 .ensures) zero-le in
     let p₂ = next-piece _ p₁ refl refl (a .put82 .ensures) in
     let p₃ = next-piece _ p₂ refl (length-toBe 2 _) (b .put16 .ensures) in
-    next-piece _ p₃ refl refl (d .zero-out .ensures) .is
+    next-piece _ p₃ refl refl (d .wipe .ensures) .is
 
 pub put-segment-head-spec : {M : Type 1} → statement M
 put-segment-head-spec =
     tie.close
-    (tie.spec put8-requires put8-requires-2 put16-requires zero-out-requires same-length returns)
+    (tie.spec put8-requires put8-requires-2 put16-requires wipe-requires same-length returns)
