@@ -5,7 +5,7 @@ use mathlib.Core.List.{[], _∷_, _++_, foldl, append-assoc}
 use lib.ListN.{length, take, drop, getD, length-append, length-drop}
 use lib.Seq.{take-suc, getD-drop, take-at, drop-at, length-take-le}
 use lib.Dec.{lit<}
-use native.Mathlib.Nat.{div-add-mod', div-lt-iff-lt-mul, pow-suc, pow-le-pow-right, lt-of-lt-of-le}
+use native.Mathlib.Nat.{add-zero, div-add-mod', div-lt-iff-lt-mul, mul-assoc, pow-suc}
 use native.Mathlib.Numerals.{add-one}
 use native.Mathlib.Omega.{arith}
 use Rattle.rules.specs.Bytes.{Bytes, part, be, field, toBe, laid}
@@ -29,11 +29,18 @@ field-more at i s x b h ex eb =
     let k : i < length (drop at s) = rw length-drop (omega arith) in
     rw (ex, eb, add-one, take-suc (drop at s) i 0 k, be-snoc, getD-drop)
 
--- a number with one byte more still fits its width, and a word
-pub fits-more : (i x b : ℕ) → i < 8 → x < 256 ^ i → b < 256 → (x * 256 + b < 256 ^ (i + 1)) × (x * 256 + b < 2 ^ 64)
-fits-more i x b h hx hb =
-    let p : x * 256 + b < 256 ^ (i + 1) = rw (add-one, pow-suc) (omega arith) in
-    (p, lt-of-lt-of-le p (pow-le-pow-right {n = 256} (lit< tt) {j = 8} (omega arith)))
+-- a field is its front, moved up by the width of its back, and its back
+pub field-split : (at m n : ℕ) (s : Bytes) → at + (m + n) ≤ length s → field at (m + n) s ≡ field at m s * 256 ^ n + field (at + m) n s
+field-split at m zero s h = rw (add-zero, field-none) (omega arith)
+field-split at m (suc n) s h =
+    let front : at + (m + n) < length s = omega arith in
+    let back : at + m + n < length s = omega arith in
+    let same : at + (m + n) ≡ at + m + n = omega arith in
+    let whole : field at (m + n) s * 256 + getD s (at + (m + n)) 0 ≡ field at (m + suc n) s =
+    field-more at (m + n) s _ _ front refl refl ∙ ap (λ (k : ℕ). field at k s) (omega arith) in
+    let half : field (at + m) n s * 256 + getD s (at + m + n) 0 ≡ field (at + m) (suc n) s =
+    field-more (at + m) n s _ _ back refl refl ∙ ap (λ (k : ℕ). field (at + m) k s) (omega arith) in
+    rw (← whole, ← half, pow-suc, field-split at m n s (omega arith), same, ← mul-assoc) (omega arith)
 
 pub length-toBe : (n x : ℕ) → length (toBe n x) ≡ n
 unfolding toBe

@@ -1,4 +1,5 @@
-// Big-endian numbers out of and into byte slices, of 16, 32 and 64 bits, over one loop for any width.
+// Big-endian numbers out of and into byte slices, of 16, 32 and 64 bits. A number is read as two halves, so that no loop is left
+// and the compiler can make one load of it; it is written by one loop for any width.
 ghost use mathlib.Core.Path.{_≡_};
 ghost use Prim.Native.Nat.{_+_, _<_, _≤_, _^_};
 ghost use lib.ListN.{length};
@@ -11,38 +12,31 @@ fn wide(x: u8) -> u64
     x as u64
 }
 
-fn get(s: &[u8], at: usize, n: usize) -> u64
-    requires { ⌜ (n ≤ 8) × (at + n ≤ length (now s)) ⌝ }
-    ensures { λ r. ⌜ (r ≡ field at n (now (s .entry))) × (r < 256 ^ n) ⌝ }
-{
-    let mut x: u64 = 0;
-    let mut i = 0;
-    while i < n {
-        x = x * 256 + wide(s[at + i]);
-        i += 1;
-    }
-    x
-}
-
 pub fn get16(s: &[u8], at: usize) -> u16
     requires { ⌜ at + 2 ≤ length (now s) ⌝ }
     ensures { λ r. ⌜ r ≡ field at 2 (now (s .entry)) ⌝ }
 {
-    get(s, at, 2) as u16
+    let high = wide(s[at]);
+    let low = wide(s[at + 1]);
+    (high * 256 + low) as u16
 }
 
 pub fn get32(s: &[u8], at: usize) -> u32
     requires { ⌜ at + 4 ≤ length (now s) ⌝ }
     ensures { λ r. ⌜ r ≡ field at 4 (now (s .entry)) ⌝ }
 {
-    get(s, at, 4) as u32
+    let high = get16(s, at) as u32;
+    let low = get16(s, at + 2) as u32;
+    high * 65536 + low
 }
 
 pub fn get64(s: &[u8], at: usize) -> u64
     requires { ⌜ at + 8 ≤ length (now s) ⌝ }
     ensures { λ r. ⌜ r ≡ field at 8 (now (s .entry)) ⌝ }
 {
-    get(s, at, 8)
+    let high = get32(s, at) as u64;
+    let low = get32(s, at + 4) as u64;
+    high * 4294967296 + low
 }
 
 // From the last byte to the first: what is left of the number is always the bytes still to come.
