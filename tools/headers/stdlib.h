@@ -5,6 +5,7 @@
 
 void *malloc(size_t size);
 void free(void *from);
+char *getenv(const char *name);
 __attribute__((noreturn)) void exit(int status);
 
 #endif
