@@ -1,6 +1,8 @@
 /* The rota that the examples share; posts.h says what is here. */
 #include "posts.h"
 
+#include "bytes.h"
+
 #include <stdio.h>
 #include <string.h>
 
@@ -35,14 +37,6 @@ static const char *const meanings[] = {
     "not written: the request makes no command",
     "not written: too little room for the command",
 };
-
-static void put_number(uint8_t *at, uint64_t number, int size)
-{
-    while (size-- > 0) {
-        at[size] = (uint8_t)number;
-        number >>= 8;
-    }
-}
 
 void permit(uint8_t capability[HOLMWEDER_CAPABILITY_BYTES], uint8_t permissions, uint64_t length)
 {
