@@ -10,7 +10,8 @@
 //! * [`theorems`] says answers in the language of the book of rules, to hold the two against each other,
 //! * [`compare`] holds another engine to all of this, through its C [`face`] and a [`driver`],
 //! * [`capture`] has an outside program, Wireshark, read what a writer wrote,
-//! * [`bench`] has the files of the program on standard input.
+//! * [`bench`] has the files of the program on standard input,
+//! * [`server`] tests the example server and its client.
 
 pub mod admission;
 pub mod bench;
@@ -30,6 +31,7 @@ pub mod numbers;
 pub mod random;
 pub mod record;
 pub mod segment;
+pub mod server;
 pub mod sessions;
 pub mod theorems;
 pub mod vectors;
