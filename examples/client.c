@@ -117,7 +117,8 @@ static int show(const struct turn *turn)
     read_names(turn, now);
     printf("\n       %-22s %6s   %s\n", "post", "place", "name");
     for (int i = 0; i < POSTS; i++)
-        printf("    %d  %-22s %6lu   %.*s\n", i + 1, posts[i].name, (unsigned long)posts[i].place, NAME_BYTES, now[i].text);
+        printf("    %d  %-22s %6lu   %.*s\n", i + 1, posts[i].name, (unsigned long)posts[i].place, NAME_BYTES,
+               now[i].text);
     puts("");
     return 0;
 }

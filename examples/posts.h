@@ -42,8 +42,8 @@ struct command {
 void permit(uint8_t capability[HOLMWEDER_CAPABILITY_BYTES], uint8_t permissions, uint64_t length);
 
 /*
- * Puts one command on a list of posts together, and returns the writer's number. A WRITE carries `data`, a name for each
- * post in the list's order; for a READ it is null.
+ * Puts one command on a list of posts together, and returns the writer's number. A WRITE carries `data`, a name for
+ * each post in the list's order; for a READ it is null.
  */
 uint32_t compose(struct command *command, uint64_t action, const uint8_t *capability, const int *list, size_t count,
                  const struct name *data);

@@ -1,24 +1,24 @@
 /*
  * What server.c and client.c say to each other, over a Unix stream socket.
  *
- * A connection is a turn: the client sends requests, and each is answered before the next one is read. The server has one
- * turn at a time, so no other client's command comes between the commands of a turn. A turn has a time limit, so a client
- * that hangs doesn't keep the others waiting for ever.
+ * A connection is a turn: the client sends requests, and each is answered before the next one is read. The server has
+ * one turn at a time, so no other client's command comes between the commands of a turn. A turn has a time limit, so a
+ * client that hangs doesn't keep the others waiting for ever.
  *
  *   request   "HWQ1", lengths of CDB, Data-Out and Data-In (4 bytes each), CDB, Data-Out
  *   answer    "HWA1", number, sense key, sense code, status (4 each), count, next logical length (8 each),
  *             length of the bytes that follow (4), Data-In's first `count` bytes on a READ, nothing otherwise
  *   refusal   "HWR1", status (4), length of the reason (4), the reason in words
  *
- * Numbers are big-endian. A CDB has at most 1,024 bytes, Data-Out and Data-In at most 1 MiB each, a reason at most 200. The
- * length of Data-In is the room that the client has for a READ. The numbers of an answer are those of holmweder.h.
+ * Numbers are big-endian. A CDB has at most 1,024 bytes, Data-Out and Data-In at most 1 MiB each, a reason at most 200.
+ * The length of Data-In is the room that the client has for a READ. The numbers of an answer are those of holmweder.h.
  *
- * A command that the engine refuses has an answer. A refusal is for what doesn't reach the engine, or can't be kept: see
- * its statuses below. It ends the turn: the server closes the connection. The object is as it was, unless the reason says
- * otherwise.
+ * A command that the engine refuses has an answer. A refusal is for what doesn't reach the engine, or can't be kept:
+ * see its statuses below. It ends the turn: the server closes the connection. The object is as it was, unless the
+ * reason says otherwise.
  *
- * Whoever ends a turn does so between two frames. A client that is gone before it has read an answer can't know whether its
- * command was carried out; it asks again in a new turn.
+ * Whoever ends a turn does so between two frames. A client that is gone before it has read an answer can't know whether
+ * its command was carried out; it asks again in a new turn.
  */
 #ifndef PROTOCOL_H
 #define PROTOCOL_H

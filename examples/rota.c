@@ -1,7 +1,7 @@
 /*
- * A small rota, kept as one stored object: posts far apart, a swap by one command, and a swap that is refused at its last
- * entry and leaves everything as it was. It calls the engine in its own memory; posts.c puts the commands together, and
- * ./run builds and starts it.
+ * A small rota, kept as one stored object: posts far apart, a swap by one command, and a swap that is refused at its
+ * last entry and leaves everything as it was. It calls the engine in its own memory; posts.c puts the commands
+ * together, and ./run builds and starts it.
  */
 #include "posts.h"
 

@@ -1,12 +1,13 @@
 /*
- * A server for one object: it takes commands from clients over a Unix socket, one client after the other, has the engine
- * carry them out, and keeps the object in a file. protocol.h says what goes over the socket, store.h what is in the file.
+ * A server for one object: it takes commands from clients over a Unix socket, one client after the other, has the
+ * engine carry them out, and keeps the object in a file. protocol.h says what goes over the socket, store.h what is in
+ * the file.
  *
  * It can be killed at any moment, and that is how it is ended. Nothing is answered before it is kept: a client that was
  * told "carried out" finds it so after the next start.
  *
- * Whoever can reach the socket can send commands, with capabilities of its own making: let only those reach its folder who
- * may. To check what a capability says of itself is the work of a layer before this one.
+ * Whoever can reach the socket can send commands, with capabilities of its own making: let only those reach its folder
+ * who may. To check what a capability says of itself is the work of a layer before this one.
  */
 #define _DEFAULT_SOURCE /* lstat, S_ISSOCK */
 
@@ -54,7 +55,7 @@ __attribute__((noreturn)) static void stop(const char *what, const char *reason)
 
 static uint8_t *allocate(size_t size)
 {
-    uint8_t *memory = malloc(size);
+    uint8_t *memory = malloc(size > 0 ? size : 1); /* for 0 bytes it may be null */
     if (memory == NULL)
         stop("the object", "no memory");
     return memory;
@@ -121,10 +122,10 @@ static void refuse(const struct turn *turn, uint32_t status, const char *reason)
     send_refusal(turn, status, reason);
 }
 
-/* Whether a command that was carried out can have changed the object. Its CDB is sound, and has its action at 8. */
-static int is_change(const struct request *request)
+/* A READ changes nothing, and has bytes to send back. A sound CDB has its service action at 8. */
+static int is_read(const struct request *request)
 {
-    return number_at(request->cdb + 8, 2) != HOLMWEDER_READ;
+    return request->cdb_length == HOLMWEDER_CDB_BYTES && number_at(request->cdb + 8, 2) == HOLMWEDER_READ;
 }
 
 /* The draft becomes the object, first on the disk and then here. Nonzero where it has. */
@@ -147,7 +148,7 @@ static int keep_draft(struct server *server, const struct turn *turn, uint64_t l
         return 0;
     }
     /* To go on would be to guess. The next start reads what the disk has. */
-    snprintf(reason, sizeof reason, "carried out, but the disk may not keep it, and the server ends: %s", strerror(errno));
+    snprintf(reason, sizeof reason, "carried out, but the disk may lose it, and the server ends: %s", strerror(errno));
     refuse(turn, NOT_KEPT, reason);
     stop(server->store.path, reason);
 }
@@ -165,9 +166,9 @@ static int answer_request(struct server *server, const struct turn *turn, const 
     answer.sense_key = holmweder_sense_key(answer.number);
     answer.sense_code = holmweder_sense_code(answer.number);
     answer.status = holmweder_status(answer.number);
-    /* A READ has put so many bytes, a refusal none. What stands behind them is from earlier and is nobody's business. */
-    answer.input_length = is_change(request) ? 0 : (uint32_t)answer.count;
-    if (answer.number == 0 && is_change(request) && !keep_draft(server, turn, answer.next_length))
+    /* What stands behind these bytes is from earlier, and nobody's business. */
+    answer.input_length = is_read(request) ? (uint32_t)answer.count : 0;
+    if (answer.number == 0 && !is_read(request) && !keep_draft(server, turn, answer.next_length))
         return 0;
     if (!send_answer(turn, &answer))
         return 0;

@@ -1,7 +1,7 @@
 /*
  * One object in a file. The file is always whole: a changed object is written to a new file beside it, which is renamed
- * over the old one when all of it is on the disk. So whoever is killed, and whenever, leaves the object as it was before or
- * as it is afterwards.
+ * over the old one when all of it is on the disk. So whoever is killed, and whenever, leaves the object as it was
+ * before or as it is afterwards.
  *
  * The file's bytes, numbers big-endian:
  *
@@ -36,8 +36,8 @@ struct store {
 };
 
 /*
- * Opens the store, for this process alone: the file with .lock behind its path is locked until the process ends. Null, or
- * why it can't be opened.
+ * Opens the store, for this process alone: the file with .lock behind its path is locked until the process ends. Null,
+ * or why it can't be opened.
  */
 const char *open_store(struct store *store, const char *path);
 
@@ -60,8 +60,9 @@ enum saved {
 enum saved save(const struct store *store, const struct object *object);
 
 /*
- * For tests: a process whose environment has SERVER_STOP_AT stops itself (SIGSTOP) at the moment of that name, so that it
- * can be killed just there. The moments of a change, in their order: made, begun, written, synced, renamed, saved, answered.
+ * For tests: a process whose environment has SERVER_STOP_AT stops itself (SIGSTOP) at the moment of that name, so that
+ * it can be killed just there. The moments of a change, in their order: made, begun, written, synced, renamed, saved,
+ * answered.
  */
 void moment(const char *name);
 
