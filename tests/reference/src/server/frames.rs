@@ -76,6 +76,11 @@ impl Peer {
         let _ = self.stream.write_all(bytes);
     }
 
+    /// Whether the server still takes bytes.
+    pub fn can_send(&mut self, byte: u8) -> bool {
+        self.stream.write_all(&[byte]).is_ok()
+    }
+
     /// There is nothing more to send.
     pub fn end(&mut self) {
         let _ = self.stream.shutdown(Shutdown::Write);

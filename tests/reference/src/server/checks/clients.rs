@@ -8,12 +8,15 @@ use super::super::{expect, Place};
 use super::swaps::shows;
 use std::collections::BTreeMap;
 use std::thread;
-use std::time::Duration;
+use std::time::{Duration, Instant};
 
 const SWAPS_EACH: usize = 20;
 
 /// A turn that is over soon, for clients that don't end theirs.
-const SHORT_TURN: [&str; 3] = ["--fresh", "--turn", "300"];
+const SHORT_TURN: [&str; 3] = ["--fresh", "--turn", "500"];
+
+/// A turn ends sooner than this, or never.
+const PATIENCE: Duration = Duration::from_secs(60);
 
 /// The names before and after a swap, as the client has shown them.
 type Change = (Vec<String>, Vec<String>);
@@ -131,7 +134,7 @@ pub fn halting(place: &Place) -> Result<(), String> {
     let _server = Server::start(place, &SHORT_TURN)?;
     let (command, _) = Rota::fresh().swap(0, 1);
     let frame = frames::request(&command, 0);
-    for length in [2, 10, 100, frame.len() - 1] {
+    for length in [2, 10, frame.len() - 1] {
         let mut peer = Peer::connect(&place.socket())?;
         peer.send(&frame[..length]);
         is_late(place, &mut peer)?;
@@ -142,11 +145,13 @@ pub fn halting(place: &Place) -> Result<(), String> {
 /// Each byte comes in time after the one before, and yet the turn ends.
 pub fn trickling(place: &Place) -> Result<(), String> {
     let _server = Server::start(place, &SHORT_TURN)?;
-    let (command, _) = Rota::fresh().swap(0, 1);
-    let frame = frames::request(&command, 0);
     let mut peer = Peer::connect(&place.socket())?;
-    for byte in &frame[..60] {
-        peer.send(&[*byte]);
+    peer.send(&frames::head(236, 1 << 20, 0));
+    let start = Instant::now();
+    while peer.can_send(0) {
+        expect(start.elapsed() < PATIENCE, || {
+            "the turn doesn't end".to_string()
+        })?;
         thread::sleep(Duration::from_millis(10));
     }
     is_late(place, &mut peer)
