@@ -1,11 +1,10 @@
 -- Bytes that are laid over a slice one after another: the loop that copies, wipes and moves down.
-use Prim.Native.Nat.{ℕ, _+_, _-_, _≤_, _<_}
+use Prim.Native.Nat.{ℕ, _+_, _≤_, _<_}
 use mathlib.Core.Path.{_≡_, refl, _∙_}
-use native.Mathlib.Nat.{add-sub-of-le}
 use native.Mathlib.Numerals.{add-one}
 use native.Mathlib.Omega.{arith}
 use lib.ListN.{length, set, length-set, length-take, length-drop}
-use lib.Seq.{paste, paste-zero, paste-suc, drop-paste, take-length, getD-take, getD-drop}
+use lib.Seq.{paste, paste-zero, paste-suc, take-length, getD-take, getD-drop}
 use Rattle.rules.specs.Bytes.{Bytes, byte, part, laid}
 
 -- i bytes of d stand over s₀ from `at` on, and that is s
@@ -31,13 +30,6 @@ module _ (s₀ : Bytes) (at : ℕ) (d : Bytes) where
   pub laying-done : (s : Bytes) (i : ℕ) → i ≡ length d → Laying s₀ at d s i → s ≡ laid at d s₀
   unfolding laid
   laying-done s i e l = l .so-far ∙ rw (e, take-length)
-
-  -- what is ahead of the bytes laid is as it was
-  pub laying-ahead : (s : Bytes) (i p : ℕ) → at ≤ length s₀ → at + i ≤ p → Laying s₀ at d s i → byte p s ≡ byte p s₀
-  laying-ahead s i p room ahead l =
-      let k : ℕ = p - (at + i) in
-      let e : at + i + k ≡ p = add-sub-of-le ahead in
-      rw (← e, l .so-far, ← getD-drop (at + i) (paste s₀ at d i) k 0, drop-paste s₀ at d i room (l .within)) (getD-drop (at + i) s₀ k 0)
 
 pub part-length : (at n : ℕ) (s : Bytes) → at + n ≤ length s → length (part at n s) ≡ n
 part-length at n s h = simp (length-take, length-drop) (omega arith)

@@ -1,4 +1,5 @@
 pub mod Laying
+pub mod Blocks
 pub mod Raising
 pub mod Within
 pub mod Entries

@@ -1,4 +1,5 @@
-// The movers on byte slices, each with what every byte is afterwards. A byte that moves is moved once, and no other is read or written.
+// The movers on byte slices, each with what every byte is afterwards. No byte is read but those that move, and none is written but
+// where one goes.
 use rules::Range;
 ghost use mathlib.Core.Path.{_≡_};
 ghost use mathlib.Core.Bool.{false};
@@ -11,8 +12,18 @@ ghost use Rattle.rules.specs.Ranges.{total, reach};
 ghost use Rattle.rules.specs.Segment.{entriesFrom};
 ghost use Rattle.rules.specs.Object.{gathered, scattered, grown, punched};
 
-// Of no bytes `start` may lie anywhere, as an empty range of a WRITE may.
-pub fn copy(from: &[u8], at: usize, n: usize, to: &mut [u8], start: usize)
+// the smaller of two numbers
+fn least(a: u64, b: usize) -> usize
+    ensures { λ r. ⌜ r ≡ min a b ⌝ }
+{
+    if a < b as u64 {
+        return a as usize;
+    }
+    b
+}
+
+// Byte by byte. Of no bytes `start` may lie anywhere, as an empty range of a WRITE may.
+fn copy_bytes(from: &[u8], at: usize, n: usize, to: &mut [u8], start: usize)
     requires { ⌜ (at + n ≤ length (now from)) × (0 < n → start + n ≤ length (now to)) ⌝ }
     ensures { λ _. ⌜ now (to .exit) ≡ laid start (part at n (now (from .entry))) (now (to .entry)) ⌝ }
 {
@@ -20,6 +31,30 @@ pub fn copy(from: &[u8], at: usize, n: usize, to: &mut [u8], start: usize)
     while i < n {
         to[start + i] = from[at + i];
         i += 1;
+    }
+}
+
+// Through a local array, which nothing else can reach. So the compiler sees that all is read before anything is written: it
+// leaves the array out and calls the C library's memmove, which no loop of bytes between two lent slices comes to.
+fn copy_block(from: &[u8], at: usize, n: usize, to: &mut [u8], start: usize)
+    requires { ⌜ (n ≤ 16384) × (at + n ≤ length (now from)) × (start + n ≤ length (now to)) ⌝ }
+    ensures { λ _. ⌜ now (to .exit) ≡ laid start (part at n (now (from .entry))) (now (to .entry)) ⌝ }
+{
+    let mut block = [0u8; 16384];
+    copy_bytes(from, at, n, &mut block, 0);
+    copy_bytes(&block, 0, n, to, start);
+}
+
+// Of no bytes `start` may lie anywhere here too.
+pub fn copy(from: &[u8], at: usize, n: usize, to: &mut [u8], start: usize)
+    requires { ⌜ (at + n ≤ length (now from)) × (0 < n → start + n ≤ length (now to)) ⌝ }
+    ensures { λ _. ⌜ now (to .exit) ≡ laid start (part at n (now (from .entry))) (now (to .entry)) ⌝ }
+{
+    let mut done = 0;
+    while done < n {
+        let size = least((n - done) as u64, 16384);
+        copy_block(from, at + done, size, to, start + done);
+        done += size;
     }
 }
 
@@ -34,16 +69,26 @@ pub fn wipe(s: &mut [u8], start: usize, n: usize)
     }
 }
 
-// In place, ascending: a byte is read before another is written over it.
+// The same within one slice.
+fn move_block(s: &mut [u8], from: usize, n: usize, to: usize)
+    requires { ⌜ (n ≤ 16384) × (from + n ≤ length (now s)) × (to + n ≤ length (now s)) ⌝ }
+    ensures { λ _. ⌜ now (s .exit) ≡ laid to (part from n (now (s .entry))) (now (s .entry)) ⌝ }
+{
+    let mut block = [0u8; 16384];
+    copy_bytes(s, from, n, &mut block, 0);
+    copy_bytes(&block, 0, n, s, to);
+}
+
+// In place, ascending: a block is read before another is written over it.
 pub fn move_down(s: &mut [u8], from: usize, n: usize, to: usize)
     requires { ⌜ (to ≤ from) × (from + n ≤ length (now s)) ⌝ }
     ensures { λ _. ⌜ now (s .exit) ≡ laid to (part from n (now (s .entry))) (now (s .entry)) ⌝ }
 {
-    let mut i = 0;
-    while i < n {
-        let b = s[from + i];
-        s[to + i] = b;
-        i += 1;
+    let mut done = 0;
+    while done < n {
+        let size = least((n - done) as u64, 16384);
+        move_block(s, from + done, size, to + done);
+        done += size;
     }
 }
 
@@ -87,16 +132,6 @@ pub fn clear_range(slice: &mut [u8], logical: usize, g: Range)
     let start = g.start as usize;
     grow(slice, logical, largest(logical, start));
     wipe(slice, start, g.size as usize);
-}
-
-// the smaller of two numbers
-fn least(a: u64, b: usize) -> usize
-    ensures { λ r. ⌜ r ≡ min a b ⌝ }
-{
-    if a < b as u64 {
-        return a as usize;
-    }
-    b
 }
 
 // The object is the slice's first `logical` bytes; the answer is how many of them the range had.

@@ -1,56 +1,58 @@
--- `object::copy` meets its contract: after i turns, i of the part's bytes are laid.
+-- `object::copy` meets its contract: after each turn, a block more of the part is laid.
 use Prim.Native.Nat.{_-_}
 use borrow.Author.Needs.{needs}
 use native.Mathlib.Omega.{arith}
-use Rattle.rules.specs.Bytes.{part}
-use Rattle.object.proofs.Laying.{Laying, laying-none, laying-more, laying-done, part-length, part-byte}
+use Rattle.object.proofs.Blocks.{Moved, moved-none, moved-more, moved-done}
 use Rattle.object.proofs.copy.Statement.{statement}
 use Rattle.object.proofs.copy.Tie as tie
 
 abbrev Inv-loop : tie.InvT-loop
-Inv-loop from at n to₀ start i₀ to i = Laying to₀ start (part at n from) to i
+Inv-loop from at n to₀ start done₀ to done = Moved from to₀ at start n to done
 
 abbrev μ-loop : tie.MeasureT-loop
-μ-loop from at n to₀ start i₀ to i = n - i
+μ-loop from at n to₀ start done₀ to done = n - done
 
 loop-holds : tie.Need-loop-holds Inv-loop μ-loop
-loop-holds c = laying-none _ _ _
+loop-holds c = moved-none _ _ _ _ _
 
-add-to : tie.Need-add-to Inv-loop μ-loop
-add-to c = search needs
+sub-least : tie.Need-sub-least Inv-loop μ-loop
+sub-least c = search needs
 
-shared-slice-read-to : tie.Need-shared-slice-read-to Inv-loop μ-loop
-shared-slice-read-to c = search needs
+least-requires : tie.Need-least-requires Inv-loop μ-loop
+least-requires c κs = search needs
 
-add-to-2 : tie.Need-add-to-2 Inv-loop μ-loop
-add-to-2 c = omega (arith, c .before .before .before .pre .1 (omega arith))
+add-copy-block : tie.Need-add-copy-block Inv-loop μ-loop
+add-copy-block c = omega (arith, c .before .before .loop .inv .within, c .before .before .before .before .before .pre .0)
 
-slice-write-to : tie.Need-slice-write-to Inv-loop μ-loop
-slice-write-to c = omega (arith, c .before .before .before .pre .1 (omega arith))
+add-copy-block-2 : tie.Need-add-copy-block-2 Inv-loop μ-loop
+add-copy-block-2 c = omega (arith, c .before .before .before .loop .inv .within, c .before .before .before .before .before .before .pre .1 (omega arith))
 
-add-i : tie.Need-add-i Inv-loop μ-loop
-add-i c = search needs
+copy-block-requires : tie.Need-copy-block-requires Inv-loop μ-loop
+copy-block-requires c κs =
+    let inv = c .before .before .before .loop .inv in
+    let room = c .before .before .before .before .before .before .pre .1 (omega arith) in
+    let size = c .before .least .ensures in
+    (omega (arith, size), omega (arith, size, inv .within), omega (arith, size, inv .within, inv .long, room))
+
+add-done : tie.Need-add-done Inv-loop μ-loop
+add-done c = omega (arith, c .before .before .before .before .least .ensures)
 
 loop-less : tie.Need-loop-less Inv-loop μ-loop
-loop-less c = search needs
+loop-less c = omega (arith, c .before .before .before .before .least .ensures)
 
 loop-again : tie.Need-loop-again Inv-loop μ-loop
 loop-again c =
-    let a = c .before .before .before .args in
-    let l = c .before .before .loop in
-    let long = part-length (a .at) (a .n) (a .from .now) (c .before .before .before .pre .0) in
-    let room = c .before .before .before .pre .1 (omega arith) in
-    let next = part-byte (a .at) (a .n) (a .from .now) (l .i) (c .before .loop-test .taken) in
-    laying-more _ _ _ _ _ _ (omega arith) (omega arith) next (l .inv)
+    let start = c .before .before .before .before .before .before .before .before .before in
+    let l = c .before .before .before .before .before .before .loop in
+    let size = c .before .before .before .before .least .ensures in
+    let room = start .pre .1 (omega arith) in
+    moved-more _ _ _ _ _ _ _ _ _ (start .pre .0) room (omega (arith, size)) (c .before .before .copy-block .ensures) (l .inv)
 
 same-length : tie.Need-same-length Inv-loop μ-loop
 same-length c = c .before .loop .inv .long
 
 returns : tie.Need-returns Inv-loop μ-loop
-returns c =
-    let a = c .before .before .args in
-    let long = part-length (a .at) (a .n) (a .from .now) (c .before .before .pre .0) in
-    laying-done _ _ _ _ _ (omega (arith, c .before .loop .inv .within)) (c .before .loop .inv)
+returns c = moved-done _ _ _ _ _ _ _ (omega (arith, c .before .loop .inv .within)) (c .before .loop .inv)
 
 pub copy-spec : {M : Type 1} → statement M
 copy-spec =
@@ -59,11 +61,12 @@ copy-spec =
     Inv-loop
     μ-loop
     loop-holds
-    add-to
-    shared-slice-read-to
-    add-to-2
-    slice-write-to
-    add-i
+    sub-least
+    least-requires
+    add-copy-block
+    add-copy-block-2
+    copy-block-requires
+    add-done
     loop-less
     loop-again
     same-length

@@ -1,57 +1,56 @@
--- `object::move_down` meets its contract: after i turns, i of the part's bytes are laid, and the next one still stands where it stood.
-use Prim.Native.Nat.{_+_, _-_}
-use mathlib.Core.Path.{_∙_}
+-- `object::move_down` meets its contract: after each turn, a block more of the part is laid, and the next one still stands where it stood.
+use Prim.Native.Nat.{_-_}
 use borrow.Author.Needs.{needs}
 use native.Mathlib.Omega.{arith}
-use Rattle.rules.specs.Bytes.{part}
-use Rattle.object.proofs.Laying.{Laying, laying-none, laying-more, laying-done, laying-ahead, part-length, part-byte}
+use Rattle.object.proofs.Blocks.{Moved, moved-none, moved-down, moved-done}
 use Rattle.object.proofs.move_down.Statement.{statement}
 use Rattle.object.proofs.move_down.Tie as tie
 
 abbrev Inv-loop : tie.InvT-loop
-Inv-loop s₀ from n to i₀ s i = Laying s₀ to (part from n s₀) s i
+Inv-loop s₀ from n to done₀ s done = Moved s₀ s₀ from to n s done
 
 abbrev μ-loop : tie.MeasureT-loop
-μ-loop s₀ from n to i₀ s i = n - i
+μ-loop s₀ from n to done₀ s done = n - done
 
 loop-holds : tie.Need-loop-holds Inv-loop μ-loop
-loop-holds c = laying-none _ _ _
+loop-holds c = moved-none _ _ _ _ _
 
-add-b : tie.Need-add-b Inv-loop μ-loop
-add-b c = search needs
+sub-least : tie.Need-sub-least Inv-loop μ-loop
+sub-least c = search needs
 
-slice-read-b : tie.Need-slice-read-b Inv-loop μ-loop
-slice-read-b c = search needs
+least-requires : tie.Need-least-requires Inv-loop μ-loop
+least-requires c κs = search needs
 
-add-s : tie.Need-add-s Inv-loop μ-loop
-add-s c = search needs
+add-move-block : tie.Need-add-move-block Inv-loop μ-loop
+add-move-block c = omega (arith, c .before .before .before .loop .inv .within, c .before .before .before .before .before .pre .1)
 
-slice-write-s : tie.Need-slice-write-s Inv-loop μ-loop
-slice-write-s c = search needs
+add-move-block-2 : tie.Need-add-move-block-2 Inv-loop μ-loop
+add-move-block-2 c = omega (arith, c .before .before .before .loop .inv .within, c .before .before .before .before .before .pre .1)
 
-add-i : tie.Need-add-i Inv-loop μ-loop
-add-i c = search needs
+move-block-requires : tie.Need-move-block-requires Inv-loop μ-loop
+move-block-requires c κs =
+    let inv = c .before .before .before .loop .inv in
+    let size = c .before .least .ensures in
+    (omega (arith, size), omega (arith, size, inv .within, inv .long), omega (arith, size, inv .within, inv .long))
+
+add-done : tie.Need-add-done Inv-loop μ-loop
+add-done c = omega (arith, c .before .before .before .before .least .ensures)
 
 loop-less : tie.Need-loop-less Inv-loop μ-loop
-loop-less c = search needs
+loop-less c = omega (arith, c .before .before .before .before .least .ensures)
 
 loop-again : tie.Need-loop-again Inv-loop μ-loop
 loop-again c =
-    let a = c .before .before .before .args in
-    let l = c .before .before .loop in
-    let long = part-length (a .from) (a .n) (a .s .now) (c .before .before .before .pre .1) in
-    let stood = laying-ahead (a .s .now) (a .to) _ (l .s) (l .i) (a .from + l .i) (omega arith) (omega arith) (l .inv) in
-    let next = part-byte (a .from) (a .n) (a .s .now) (l .i) (c .before .loop-test .taken) in
-    laying-more _ _ _ _ _ _ (omega arith) (omega arith) (stood ∙ next) (l .inv)
+    let start = c .before .before .before .before .before .before .before .before in
+    let l = c .before .before .before .before .before .before .loop in
+    let size = c .before .before .before .before .least .ensures in
+    moved-down _ _ _ _ _ _ _ _ (start .pre .0) (start .pre .1) (omega (arith, size)) (c .before .before .move-block .ensures) (l .inv)
 
 same-length : tie.Need-same-length Inv-loop μ-loop
 same-length c = c .before .loop .inv .long
 
 returns : tie.Need-returns Inv-loop μ-loop
-returns c =
-    let a = c .before .before .args in
-    let long = part-length (a .from) (a .n) (a .s .now) (c .before .before .pre .1) in
-    laying-done _ _ _ _ _ (omega (arith, c .before .loop .inv .within)) (c .before .loop .inv)
+returns c = moved-done _ _ _ _ _ _ _ (omega (arith, c .before .loop .inv .within)) (c .before .loop .inv)
 
 pub move-down-spec : {M : Type 1} → statement M
 move-down-spec =
@@ -60,11 +59,12 @@ move-down-spec =
     Inv-loop
     μ-loop
     loop-holds
-    add-b
-    slice-read-b
-    add-s
-    slice-write-s
-    add-i
+    sub-least
+    least-requires
+    add-move-block
+    add-move-block-2
+    move-block-requires
+    add-done
     loop-less
     loop-again
     same-length
