@@ -7,12 +7,13 @@ use rules::Record;
 use rules::Spot;
 ghost use mathlib.Core.Path.{_≡_};
 ghost use Prim.Native.Nat.{_+_, _≤_, _/_};
-ghost use mathlib.Core.Bool.{Bool};
+ghost use mathlib.Core.Bool.{Bool, _&&_};
 ghost use lib.ListN.{length};
 ghost use Rattle.rules.specs.Admission.{admitted, question};
 ghost use Rattle.header.specs.declared.Reading.the-variants.{Readable};
 ghost use Rattle.header.specs.Reading.{command, readingOf};
-ghost use Rattle.admission.specs.Places.{Reads, Lying, passesIn, firstFrom, firstIn, somewhere, allFrom, admittedIn, placeOf, Handed};
+ghost use Rattle.admission.specs.declared.Asked.the-variants.{Matching};
+ghost use Rattle.admission.specs.Places.{Reads, Lying, insideOf, passesIn, firstFrom, firstIn, somewhere, allFrom, admittedIn, placeOf, Handed};
 
 // What is asked of a capability: that it matches, or that it admits a range.
 pub enum Asked {
@@ -27,19 +28,27 @@ pub enum Place {
     InOut(usize),
 }
 
-// Whether a capability passes: it matches and, where a range is asked about, has it inside.
-fn passes(k: &[u8], said: Parsed, on: Record, asked: Asked) -> bool
+fn has_inside(k: &[u8], asked: Asked) -> bool
     requires { ⌜ 104 ≤ length (now k) ⌝ }
-    ensures { λ r. ⌜ r ≡ passesIn said on asked (now (k .entry)) ⌝ }
+    ensures { λ r. ⌜ r ≡ insideOf asked (now (k .entry)) ⌝ }
 {
-    let verb = said.verb;
-    if !capability::is_match(k, verb, said.partition, said.object, on) {
-        return false;
-    }
     match asked {
         Asked::Matching => true,
         Asked::Admitting(g) => capability::is_inside(k, g),
     }
+}
+
+// Whether a capability passes: it matches and, where a range is asked about, has it inside. The range comes first, being the
+// cheaper test: of several capabilities mostly one has it inside.
+fn passes(k: &[u8], said: Parsed, on: Record, asked: Asked) -> bool
+    requires { ⌜ 104 ≤ length (now k) ⌝ }
+    ensures { λ r. ⌜ r ≡ passesIn said on asked (now (k .entry)) ⌝ }
+{
+    if !has_inside(k, asked) {
+        return false;
+    }
+    let verb = said.verb;
+    capability::is_match(k, verb, said.partition, said.object, on)
 }
 
 // The first of the extension's capabilities that passes.
@@ -107,14 +116,24 @@ fn all_entries(cdb: &[u8], segment: &[u8], part: Part, said: Parsed, on: Record)
     true
 }
 
-// Whether a command that was read is let in: some capability matches, and each of its ranges is admitted.
+// A list is let in: some capability matches, and each entry is admitted. What admits an entry matches, so that the match is
+// asked for only where there is no entry.
+fn is_list_let_in(cdb: &[u8], segment: &[u8], part: Part, said: Parsed, on: Record) -> bool
+    requires { ⌜ Reads (now cdb) (now segment) said ⌝ }
+    requires { ⌜ Lying 16 (now segment) part ⌝ }
+    ensures { λ r. ⌜ r ≡ (somewhere (firstIn (now (cdb .entry)) (now (segment .entry)) said on Matching) && allFrom (now (cdb .entry)) (now (segment .entry)) said on part) ⌝ }
+{
+    if part.size < 16 {
+        return has_place(cdb, segment, said, on, Asked::Matching);
+    }
+    all_entries(cdb, segment, part, said, on)
+}
+
+// The same of a command that was read; one range admits as a list's entry does.
 fn is_let_in(cdb: &[u8], segment: &[u8], said: Parsed, on: Record) -> bool
     requires { ⌜ Reads (now cdb) (now segment) said ⌝ }
     ensures { λ r. ⌜ r ≡ admittedIn (now (cdb .entry)) (now (segment .entry)) said on ⌝ }
 {
-    if !has_place(cdb, segment, said, on, Asked::Matching) {
-        return false;
-    }
     let found = said.found;
     let list = found.list;
     match list {
@@ -128,7 +147,7 @@ fn is_let_in(cdb: &[u8], segment: &[u8], said: Parsed, on: Record) -> bool
                 size: said.size,
             }),
         ),
-        Spot::At(part) => all_entries(cdb, segment, part, said, on),
+        Spot::At(part) => is_list_let_in(cdb, segment, part, said, on),
     }
 }
 
