@@ -129,7 +129,7 @@ fn is_list_let_in(cdb: &[u8], segment: &[u8], part: Part, said: Parsed, on: Reco
     all_entries(cdb, segment, part, said, on)
 }
 
-// The same of a command that was read; one range admits as a list's entry does.
+// Whether a command that was read is let in: its list, or its one range, of which the same holds as of an entry.
 fn is_let_in(cdb: &[u8], segment: &[u8], said: Parsed, on: Record) -> bool
     requires { ⌜ Reads (now cdb) (now segment) said ⌝ }
     ensures { λ r. ⌜ r ≡ admittedIn (now (cdb .entry)) (now (segment .entry)) said on ⌝ }

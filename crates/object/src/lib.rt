@@ -45,7 +45,7 @@ fn copy_block(from: &[u8], at: usize, n: usize, to: &mut [u8], start: usize)
     copy_bytes(&block, 0, n, to, start);
 }
 
-// Of no bytes `start` may lie anywhere here too.
+// By blocks. Of no bytes `start` may lie anywhere here too.
 pub fn copy(from: &[u8], at: usize, n: usize, to: &mut [u8], start: usize)
     requires { ⌜ (at + n ≤ length (now from)) × (0 < n → start + n ≤ length (now to)) ⌝ }
     ensures { λ _. ⌜ now (to .exit) ≡ laid start (part at n (now (from .entry))) (now (to .entry)) ⌝ }
@@ -69,7 +69,7 @@ pub fn wipe(s: &mut [u8], start: usize, n: usize)
     }
 }
 
-// The same within one slice.
+// A block as in `copy_block`, within one slice.
 fn move_block(s: &mut [u8], from: usize, n: usize, to: usize)
     requires { ⌜ (n ≤ 16384) × (from + n ≤ length (now s)) × (to + n ≤ length (now s)) ⌝ }
     ensures { λ _. ⌜ now (s .exit) ≡ laid to (part from n (now (s .entry))) (now (s .entry)) ⌝ }
