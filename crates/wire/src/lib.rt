@@ -1,5 +1,5 @@
-// Big-endian numbers out of and into byte slices, of 16, 32 and 64 bits. A number is read as two halves, so that no loop is left
-// and the compiler can make one load of it; it is written by one loop for any width.
+// Big-endian numbers out of and into byte slices, of 16, 32 and 64 bits. A number is read without a loop, each byte with its own weight:
+// of such a sum the compiler makes one load. It is written by one loop for any width.
 ghost use mathlib.Core.Path.{_≡_};
 ghost use Prim.Native.Nat.{_+_, _<_, _≤_, _^_};
 ghost use lib.ListN.{length};
@@ -21,21 +21,31 @@ pub fn get16(s: &[u8], at: usize) -> u16
     (high * 256 + low) as u16
 }
 
+// Four bytes, in a number wide enough for eight: a sum that is cut to 32 bits halfway isn't made one load.
+fn four(s: &[u8], at: usize) -> u64
+    requires { ⌜ at + 4 ≤ length (now s) ⌝ }
+    ensures { λ r. ⌜ (r ≡ field at 4 (now (s .entry))) × (r < 2 ^ 32) ⌝ }
+{
+    let first = wide(s[at]);
+    let second = wide(s[at + 1]);
+    let third = wide(s[at + 2]);
+    let last = wide(s[at + 3]);
+    first * 16777216 + second * 65536 + third * 256 + last
+}
+
 pub fn get32(s: &[u8], at: usize) -> u32
     requires { ⌜ at + 4 ≤ length (now s) ⌝ }
     ensures { λ r. ⌜ r ≡ field at 4 (now (s .entry)) ⌝ }
 {
-    let high = get16(s, at) as u32;
-    let low = get16(s, at + 2) as u32;
-    high * 65536 + low
+    four(s, at) as u32
 }
 
 pub fn get64(s: &[u8], at: usize) -> u64
     requires { ⌜ at + 8 ≤ length (now s) ⌝ }
     ensures { λ r. ⌜ r ≡ field at 8 (now (s .entry)) ⌝ }
 {
-    let high = get32(s, at) as u64;
-    let low = get32(s, at + 4) as u64;
+    let high = four(s, at);
+    let low = four(s, at + 4);
     high * 4294967296 + low
 }
 
