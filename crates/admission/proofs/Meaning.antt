@@ -1,7 +1,7 @@
 -- What the searches find is what the book says of the command that was read.
 use Prim.Native.Nat.{ℕ, zero, suc, _+_, _-_, _*_, _/_, _≤_}
 use mathlib.Core.Path.{_≡_, refl, ap, sym, subst, _∙_}
-use mathlib.Core.Bool.{Bool, true, false, cond, _||_, and-true}
+use mathlib.Core.Bool.{Bool, true, false, cond, _||_, _&&_, and-true}
 use mathlib.Core.Option.{Option, none, some}
 use mathlib.Core.List.{List, [], _∷_, map}
 use native.Mathlib.Omega.{arith}
@@ -16,103 +16,127 @@ use Rattle.rules.specs.Tests.{test, firstOf, isSome}
 use Rattle.rules.specs.Command.{Command, soleRange, segment, verb}
 use Rattle.rules.specs.Segment.{placesFrom}
 use Rattle.rules.specs.Reading.{Lent, inCdb, inOut, Held, found, ranges, rangesOf, solo, extension, extensionsOf, capabilities}
-use Rattle.rules.specs.Capability.{inside}
+use Rattle.rules.specs.Capability.{tagged, current, matches, inside}
 use Rattle.rules.specs.Header.{header, readable}
 use Rattle.rules.specs.Admission.{fits, admits, admitting, admitted, admittingFor, question}
 use Rattle.rules.proofs.Passed.{header-passed}
 use Rattle.rules.proofs.Segment.{sound-found}
+use Rattle.capability.specs.declared.Sought.{Sought}
+use Rattle.capability.specs.Terms.{meets, allowance, insideOf}
+use Rattle.capability.proofs.Terms.{inside-is}
 use Rattle.header.specs.declared.Parsed.{Parsed}
 use Rattle.header.specs.declared.Reading.{Reading}
 use Rattle.header.specs.declared.Reading.the-variants.{Unreadable, Readable}
 use Rattle.header.specs.Reading.{saidBy, readingOf}
 use Rattle.header.proofs.Rows.{Says, says, says-segment, unreadable, sized}
-use Rattle.admission.specs.declared.Asked.{Asked}
-use Rattle.admission.specs.declared.Asked.the-variants.{Matching, Admitting}
 use Rattle.admission.specs.declared.Place.{Place}
 use Rattle.admission.specs.declared.Place.the-variants.{Nowhere, InCdb, InOut}
-use Rattle.admission.specs.Places.{placeOf, LyingAt, Reads, passesIn, firstAt, firstFrom, firstSpot, firstIn, somewhere, allFrom, allSpot, admittedIn}
+use Rattle.admission.specs.Places.{placeOf, LyingAt, FewAt, Reads, soughtBy, admitsIn, firstAt, firstFrom, firstSpot, firstIn, piecesAt, piecesIn, noted, insideOne, eachInside, someOf, admittedIn}
 
--- whether there is a place is whether there is a capability
-some-place : (o : Option Held) → isSome o ≡ somewhere (placeOf o)
-some-place none = refl
-some-place (some h) = go (h .lent)
-  where
-    go : (l : Lent) → true ≡ somewhere (Rattle.admission.specs.Places.placeIn l (h .at))
-    go inCdb = refl
-    go inOut = refl
-
--- some element passes exactly where there is a first one
-any-first : (f : Held → Bool) (ks : List Held) → any f ks ≡ isSome (firstOf (map (λ (k : Held). test k (f k)) ks))
-unfolding any firstOf
-any-first f [] = refl
-any-first f (k ∷ ks) = go (f k) (any-first f ks)
-  where
-    go : (b : Bool) → any f ks ≡ isSome (firstOf (map (λ (k : Held). test k (f k)) ks))
-        → (b || any f ks) ≡ isSome (cond b (some k) (firstOf (map (λ (k : Held). test k (f k)) ks)))
-    go true r = refl
-    go false r = r
+-- the bytes of capabilities
+abbrev bytesOf : List Held → List Bytes
+bytesOf ks = map (λ (k : Held). k .bytes) ks
 
 module _ (v : Verb) (c : Command) where
   -- what is said by a command of this verb, once it is read
   abbrev by : Parsed
   by = saidBy v (c .cdb) (found c)
 
-  -- what is asked, as the book has it
-  abbrev asking : Asked → Held → Bool
-  asking Matching = fits v c
-  asking (Admitting g) = admits v c g
+  abbrev sought : Sought
+  sought = soughtBy by (c .on)
 
-  passes-is : (q : Asked) (k : Held) → asking q k ≡ passesIn by (c .on) q (k .bytes)
-  unfolding admits passesIn fits saidBy
-  passes-is Matching k = sym (and-true _)
-  passes-is (Admitting g) k = refl
+  fits-is : (k : Held) → fits v c k ≡ meets sought (k .bytes)
+  unfolding fits meets saidBy matches tagged current
+  fits-is k = refl
 
-  -- the first that passes, of some capabilities in their order
-  abbrev firstBy : Asked → List Held → Option Held
-  firstBy q ks = firstOf (map (λ (k : Held). test k (asking q k)) ks)
+  admits-is : (g : Range) (k : Held) → admits v c g k ≡ admitsIn sought g (k .bytes)
+  unfolding admits admitsIn
+  admits-is g k = ap (λ (b : Bool). b && inside g (k .bytes)) (fits-is k)
+
+  -- ---- the first that admits a range, of some capabilities in their order
+  abbrev firstBy : Range → List Held → Option Held
+  firstBy g ks = firstOf (map (λ (k : Held). test k (admits v c g k)) ks)
 
   -- one more in front: k stands at w
-  chosen : (q : Asked) (k : Held) (ks : List Held) (w : Place) → placeOf (some k) ≡ w → (rest : Place) → placeOf (firstBy q ks) ≡ rest
-      → placeOf (firstBy q (k ∷ ks)) ≡ cond (passesIn by (c .on) q (k .bytes)) w rest
+  chosen : (g : Range) (k : Held) (ks : List Held) (w : Place) → placeOf (some k) ≡ w → (rest : Place) → placeOf (firstBy g ks) ≡ rest
+      → placeOf (firstBy g (k ∷ ks)) ≡ cond (admitsIn sought g (k .bytes)) w rest
   unfolding firstOf
-  chosen q k ks w is rest r = go (asking q k) (passes-is q k)
+  chosen g k ks w is rest r = go (admits v c g k) (admits-is g k)
     where
-      go : (b : Bool) → b ≡ passesIn by (c .on) q (k .bytes) → placeOf (cond b (some k) (firstBy q ks)) ≡ cond (passesIn by (c .on) q (k .bytes)) w rest
+      go : (b : Bool) → b ≡ admitsIn sought g (k .bytes) → placeOf (cond b (some k) (firstBy g ks)) ≡ cond (admitsIn sought g (k .bytes)) w rest
       go true e = rw (← e) is
       go false e = rw (← e) r
 
   -- the extension's
-  first-places : (q : Asked) (ps : List ℕ) → placeOf (firstBy q (map (extension c) ps)) ≡ firstAt (passesIn by (c .on) q) (segment c) ps
+  first-places : (g : Range) (ps : List ℕ) → placeOf (firstBy g (map (extension c) ps)) ≡ firstAt (admitsIn sought g) (segment c) ps
   unfolding firstOf firstAt extension
-  first-places q [] = refl
-  first-places q (a ∷ ps) = chosen q (extension c a) (map (extension c) ps) (InOut a) refl _ (first-places q ps)
+  first-places g [] = refl
+  first-places g (a ∷ ps) = chosen g (extension c a) (map (extension c) ps) (InOut a) refl _ (first-places g ps)
 
-  first-spot : (q : Asked) (x : Spot) → placeOf (firstBy q (extensionsOf x c)) ≡ firstSpot (passesIn by (c .on) q) (segment c) x
+  first-spot : (g : Range) (x : Spot) → placeOf (firstBy g (extensionsOf x c)) ≡ firstSpot (admitsIn sought g) (segment c) x
   unfolding firstOf firstFrom
-  first-spot q Absent = refl
-  first-spot q (At d) = first-places q (placesFrom (d .size / 104) (d .at))
+  first-spot g Absent = refl
+  first-spot g (At d) = first-places g (placesFrom (d .size / 104) (d .at))
 
   -- the command's
-  first-is : (q : Asked) → placeOf (firstBy q (capabilities c)) ≡ firstIn (c .cdb) (segment c) by (c .on) q
-  unfolding capabilities firstIn solo saidBy
-  first-is q = chosen q (solo c) (extensionsOf (found c .extension) c) InCdb refl _ (first-spot q (found c .extension))
+  admitting-is : (g : Range) → placeOf (admitting v c g) ≡ firstIn (c .cdb) (segment c) by (c .on) g
+  unfolding admitting capabilities firstIn solo saidBy
+  admitting-is g = chosen g (solo c) (extensionsOf (found c .extension) c) InCdb refl _ (first-spot g (found c .extension))
 
-  any-is : any (fits v c) (capabilities c) ≡ somewhere (firstIn (c .cdb) (segment c) by (c .on) Matching)
-  any-is = any-first (fits v c) (capabilities c) ∙ some-place (firstBy Matching (capabilities c)) ∙ ap somewhere (first-is Matching)
+  -- ---- what is noted of them
+  any-noted : (ks : List Held) → any (fits v c) ks ≡ someOf (noted sought (bytesOf ks))
+  unfolding any noted
+  any-noted [] = refl
+  any-noted (k ∷ ks) = go (fits v c k) (fits-is k) (any-noted ks)
+    where
+      go : (b : Bool) → b ≡ meets sought (k .bytes) → any (fits v c) ks ≡ someOf (noted sought (bytesOf ks))
+          → (b || any (fits v c) ks) ≡ someOf (cond (meets sought (k .bytes)) (allowance (k .bytes) ∷ noted sought (bytesOf ks)) (noted sought (bytesOf ks)))
+      go true e r = rw (← e)
+      go false e r = rw (← e) r
 
-  admitting-is : (g : Range) → placeOf (admitting v c g) ≡ firstIn (c .cdb) (segment c) by (c .on) (Admitting g)
+  one-noted : (g : Range) (ks : List Held) → isSome (firstBy g ks) ≡ insideOne (noted sought (bytesOf ks)) g
+  unfolding any noted firstOf admitsIn
+  one-noted g [] = refl
+  one-noted g (k ∷ ks) = go (meets sought (k .bytes)) refl (inside g (k .bytes)) refl (one-noted g ks)
+    where
+      go : (m : Bool) → meets sought (k .bytes) ≡ m → (i : Bool) → inside g (k .bytes) ≡ i → isSome (firstBy g ks) ≡ insideOne (noted sought (bytesOf ks)) g
+          → isSome (cond (admits v c g k) (some k) (firstBy g ks))
+          ≡ insideOne (cond (meets sought (k .bytes)) (allowance (k .bytes) ∷ noted sought (bytesOf ks)) (noted sought (bytesOf ks))) g
+      go true e true f r = rw (admits-is g k, e, inside-is (k .bytes) g, f)
+      go true e false f r = rw (admits-is g k, e, inside-is (k .bytes) g, f) r
+      go false e i f r = rw (admits-is g k, e) r
+
+  bytes-places : (ps : List ℕ) → bytesOf (map (extension c) ps) ≡ map (λ (a : ℕ). part a 104 (segment c)) ps
+  unfolding extension
+  bytes-places [] = refl
+  bytes-places (a ∷ ps) = ap (λ (ks : List Bytes). part a 104 (segment c) ∷ ks) (bytes-places ps)
+
+  bytes-spot : (x : Spot) → bytesOf (extensionsOf x c) ≡ piecesAt (segment c) x
+  bytes-spot Absent = refl
+  bytes-spot (At d) = bytes-places (placesFrom (d .size / 104) (d .at))
+
+  bytes-is : bytesOf (capabilities c) ≡ piecesIn (c .cdb) (segment c) by
+  unfolding capabilities solo saidBy
+  bytes-is = ap (λ (ks : List Bytes). part 80 104 (c .cdb) ∷ ks) (bytes-spot (found c .extension))
+
+  -- ---- the command as a whole
+  abbrev allowances : List Range
+  allowances = noted sought (piecesIn (c .cdb) (segment c) by)
+
+  any-is : any (fits v c) (capabilities c) ≡ someOf allowances
+  any-is = any-noted (capabilities c) ∙ ap (λ (ks : List Bytes). someOf (noted sought ks)) bytes-is
+
+  one-is : (g : Range) → isSome (admitting v c g) ≡ insideOne allowances g
   unfolding admitting
-  admitting-is g = first-is (Admitting g)
+  one-is g = one-noted g (capabilities c) ∙ ap (λ (ks : List Bytes). insideOne (noted sought ks) g) bytes-is
 
-  -- and the command as a whole
-  each-is : (gs : List Range)
-      → all (λ (g : Range). isSome (admitting v c g)) gs ≡ all (λ (g : Range). somewhere (firstIn (c .cdb) (segment c) by (c .on) (Admitting g))) gs
+  each-is : (gs : List Range) → all (λ (g : Range). isSome (admitting v c g)) gs ≡ all (insideOne allowances) gs
   unfolding all
   each-is [] = refl
-  each-is (g ∷ gs) = rw (some-place (admitting v c g), admitting-is g, each-is gs)
+  each-is (g ∷ gs) = rw (one-is g, each-is gs)
 
-  ranges-is : (x : Spot) → all (λ (g : Range). somewhere (firstIn (c .cdb) (segment c) by (c .on) (Admitting g))) (rangesOf x c) ≡ allSpot (c .cdb) (segment c) by (c .on) x
-  unfolding all allFrom soleRange saidBy
+  ranges-is : (x : Spot) → all (insideOne allowances) (rangesOf x c) ≡ eachInside allowances (segment c) by x
+  unfolding all soleRange saidBy
   ranges-is Absent = and-true _
   ranges-is (At d) = refl
 
@@ -123,8 +147,8 @@ module _ (v : Verb) (c : Command) where
 -- ---- over a reading
 
 module _ (c : Command) (p : Parsed) (s : Says c p) where
-  pub says-first : (g : Range) → placeOf (admitting (p .verb) c g) ≡ firstIn (c .cdb) (segment c) p (c .on) (Admitting g)
-  says-first g = admitting-is (p .verb) c g ∙ ap (λ (q : Parsed). firstIn (c .cdb) (segment c) q (c .on) (Admitting g)) (sym (s .said))
+  pub says-first : (g : Range) → placeOf (admitting (p .verb) c g) ≡ firstIn (c .cdb) (segment c) p (c .on) g
+  says-first g = admitting-is (p .verb) c g ∙ ap (λ (q : Parsed). firstIn (c .cdb) (segment c) q (c .on) g) (sym (s .said))
 
   pub says-admitted : admitted (p .verb) c ≡ admittedIn (c .cdb) (segment c) p (c .on)
   says-admitted = admitted-is (p .verb) c ∙ ap (λ (q : Parsed). admittedIn (c .cdb) (segment c) q (c .on)) (sym (s .said))
@@ -141,16 +165,21 @@ module _ (c : Command) (p : Parsed) (s : Says c p) where
   extension-lies Absent e = tt
   extension-lies (At d) e = let l = sound-found c .extension d e .0 in record { inside = l .through .inside; whole = l .through .whole }
 
+  extension-few : (x : Spot) → found c .extension ≡ x → FewAt x
+  extension-few Absent e = tt
+  extension-few (At d) e = sound-found c .extension d e .0 .through .small
+
   pub says-reads : Reads (c .cdb) (segment c) p
   says-reads =
       record {
         sized = sized c (header-passed c (s .passes) .cdb);
         list = list-lies (p .found .list) (sym (ap (λ (f : Found). f .list) found-is));
         extension = extension-lies (p .found .extension) (sym (ap (λ (f : Found). f .extension) found-is));
+        few = extension-few (p .found .extension) (sym (ap (λ (f : Found). f .extension) found-is));
       }
 
   -- the question, of a command that was read
-  pub says-question : (g : Range) → placeOf (question c g) ≡ firstIn (c .cdb) (segment c) p (c .on) (Admitting g)
+  pub says-question : (g : Range) → placeOf (question c g) ≡ firstIn (c .cdb) (segment c) p (c .on) g
   unfolding question readable admittingFor
   says-question g = rw (s .passes, s .verb) (says-first g)
 
@@ -175,8 +204,8 @@ module _ (c : Command) (p : Parsed) (e : readingOf c ≡ Readable p) where
   pub part-admitted : (t : Bool) → t ≡ admittedIn (c .cdb) (take (p .segment - 0) (c .out)) p (c .on) → t ≡ admitted (p .verb) c
   part-admitted t q = q ∙ ap (λ (s : Bytes). admittedIn (c .cdb) s p (c .on)) part-is ∙ sym (says-admitted c p said-so)
 
-  pub part-question : (g : Range) (w : Place) → w ≡ firstIn (c .cdb) (take (p .segment - 0) (c .out)) p (c .on) (Admitting g) → w ≡ placeOf (question c g)
-  part-question g w q = q ∙ ap (λ (s : Bytes). firstIn (c .cdb) s p (c .on) (Admitting g)) part-is ∙ sym (says-question c p said-so g)
+  pub part-question : (g : Range) (w : Place) → w ≡ firstIn (c .cdb) (take (p .segment - 0) (c .out)) p (c .on) g → w ≡ placeOf (question c g)
+  part-question g w q = q ∙ ap (λ (s : Bytes). firstIn (c .cdb) s p (c .on) g) part-is ∙ sym (says-question c p said-so g)
 
 -- ---- where a capability is handed back from, there are 104 bytes
 
@@ -220,9 +249,9 @@ module _ (c : Command) (g : Range) where
       ap-length : length (segment c) ≤ length (c .out)
       ap-length = simp length-take (omega arith)
 
-      in-segment : (p : Parsed) → Says c p → firstIn (c .cdb) (segment c) p (c .on) (Admitting g) ≡ InOut at → at + 104 ≤ length (segment c)
-      in-segment p s q = go (passesIn p (c .on) (Admitting g) (part 80 104 (c .cdb))) q
+      in-segment : (p : Parsed) → Says c p → firstIn (c .cdb) (segment c) p (c .on) g ≡ InOut at → at + 104 ≤ length (segment c)
+      in-segment p s q = go (admitsIn (soughtBy p (c .on)) g (part 80 104 (c .cdb))) q
         where
-          go : (b : Bool) → cond b InCdb (firstSpot (passesIn p (c .on) (Admitting g)) (segment c) (p .found .extension)) ≡ InOut at → at + 104 ≤ length (segment c)
+          go : (b : Bool) → cond b InCdb (firstSpot (admitsIn (soughtBy p (c .on)) g) (segment c) (p .found .extension)) ≡ InOut at → at + 104 ≤ length (segment c)
           go true r = let z : _≡_ {A = ℕ} 0 1 = cc in absurd (omega arith)
           go false r = spot-inside _ (segment c) (p .found .extension) at (says-reads c p s .extension) r

@@ -4,20 +4,21 @@ use mathlib.Core.Path.{_≡_}
 use denote.Ref.{RefT}
 use mathlib.Core.Bool.{Bool, true, false, cond, _&&_}
 use mathlib.Core.Option.{Option, none, some}
-use mathlib.Core.List.{List, [], _∷_}
-use lib.ListN.{length}
+use mathlib.Core.List.{List, [], _∷_, _++_, map}
+use lib.ListN.{length, take}
 use Rattle.rules.specs.declared.Record.{Record}
 use Rattle.rules.specs.declared.Range.{Range}
 use Rattle.rules.specs.declared.Part.{Part}
 use Rattle.rules.specs.declared.Spot.{Spot}
 use Rattle.rules.specs.declared.Spot.the-variants.{Absent, At}
-use Rattle.rules.specs.Bytes.{Bytes, part, all}
+use Rattle.rules.specs.Bytes.{Bytes, part, any, all}
 use Rattle.rules.specs.Segment.{placesFrom, entriesFrom}
-use Rattle.rules.specs.Capability.{matches, inside}
+use Rattle.rules.specs.Capability.{inside}
+use Rattle.rules.specs.Writer.{paired}
 use Rattle.rules.specs.Reading.{Lent, inCdb, inOut, Held}
+use Rattle.capability.specs.declared.Sought.{Sought}
+use Rattle.capability.specs.Terms.{meets, allowance, insideOf}
 use Rattle.header.specs.declared.Parsed.{Parsed}
-use Rattle.admission.specs.declared.Asked.{Asked}
-use Rattle.admission.specs.declared.Asked.the-variants.{Matching, Admitting}
 use Rattle.admission.specs.declared.Place.{Place}
 use Rattle.admission.specs.declared.Place.the-variants.{Nowhere, InCdb, InOut}
 
@@ -30,14 +31,13 @@ abbrev pub placeOf : Option Held → Place
 placeOf none = Nowhere
 placeOf (some h) = placeIn (h .lent) (h .at)
 
--- what is asked beside the match
-abbrev pub insideOf : Asked → (capability : Bytes) → Bool
-insideOf Matching k = true
-insideOf (Admitting g) k = inside g k
+-- what a capability is held against: what the command says, and the record
+abbrev pub soughtBy : Parsed → Record → Sought
+soughtBy p on = record { verb = p .verb; partition = p .partition; object = p .object; tag = on .tag; epoch = on .epoch }
 
--- a capability matches the command and, where a range is asked about, has it inside
-unfoldable pub passesIn : Parsed → Record → Asked → (capability : Bytes) → Bool
-passesIn p on q k = matches (p .verb) (p .partition) (p .object) on k && insideOf q k
+-- a capability admits a range: it matches, and the range lies inside
+unfoldable pub admitsIn : Sought → Range → (capability : Bytes) → Bool
+admitsIn w g k = meets w k && inside g k
 
 -- data of whole pieces of a width lies in the segment
 pub record Lying (width : ℕ) (s : Bytes) (d : Part) : Type 0 where
@@ -48,11 +48,17 @@ abbrev pub LyingAt : (width : ℕ) → Bytes → Spot → Type 0
 LyingAt w s Absent = Unit {0}
 LyingAt w s (At d) = Lying w s d
 
+-- an extension has eight capabilities at most
+abbrev pub FewAt : Spot → Type 0
+FewAt Absent = Unit {0}
+FewAt (At d) = d .size ≤ 832
+
 -- the CDB and the segment are those of a command that says p
 pub record Reads (cdb s : Bytes) (p : Parsed) : Type 0 where
   pub sized : length cdb ≡ 236
   pub list : LyingAt 16 s (p .found .list)
   pub extension : LyingAt 104 s (p .found .extension)
+  pub few : FewAt (p .found .extension)
 
 -- the first capability of the extension that passes a test
 unfoldable pub firstAt : (Bytes → Bool) → Bytes → List ℕ → Place
@@ -66,26 +72,47 @@ abbrev pub firstSpot : (Bytes → Bool) → Bytes → Spot → Place
 firstSpot t s Absent = Nowhere
 firstSpot t s (At d) = firstFrom t s d
 
--- the first capability of the command that passes
-unfoldable pub firstIn : (cdb s : Bytes) → Parsed → Record → Asked → Place
-firstIn cdb s p on q = cond (passesIn p on q (part 80 104 cdb)) InCdb (firstSpot (passesIn p on q) s (p .found .extension))
+-- the first capability of the command that admits a range
+unfoldable pub firstIn : (cdb s : Bytes) → Parsed → Record → Range → Place
+firstIn cdb s p on g = cond (admitsIn (soughtBy p on) g (part 80 104 cdb)) InCdb (firstSpot (admitsIn (soughtBy p on) g) s (p .found .extension))
 
-abbrev pub somewhere : Place → Bool
-somewhere Nowhere = false
-somewhere InCdb = true
-somewhere (InOut at) = true
+-- the capabilities, the CDB's first
+abbrev pub piecesFrom : Bytes → (number from : ℕ) → List Bytes
+piecesFrom s n from = map (λ (a : ℕ). part a 104 s) (placesFrom n from)
 
--- each entry of the list is admitted
-unfoldable pub allFrom : (cdb s : Bytes) → Parsed → Record → Part → Bool
-allFrom cdb s p on d = all (λ (g : Range). somewhere (firstIn cdb s p on (Admitting g))) (entriesFrom (d .size / 16) s (d .at))
+abbrev pub piecesAt : Bytes → Spot → List Bytes
+piecesAt s Absent = []
+piecesAt s (At d) = piecesFrom s (d .size / 104) (d .at)
 
--- the command as a whole is admitted: some capability matches, and each range is admitted
-abbrev pub allSpot : (cdb s : Bytes) → Parsed → Record → Spot → Bool
-allSpot cdb s p on Absent = somewhere (firstIn cdb s p on (Admitting (record { start = p .start; size = p .size })))
-allSpot cdb s p on (At d) = allFrom cdb s p on d
+abbrev pub piecesIn : (cdb s : Bytes) → Parsed → List Bytes
+piecesIn cdb s p = part 80 104 cdb ∷ piecesAt s (p .found .extension)
 
+-- what those that match allow, in their order
+unfoldable pub noted : Sought → List Bytes → List Range
+noted w [] = []
+noted w (k ∷ ks) = cond (meets w k) (allowance k ∷ noted w ks) (noted w ks)
+
+-- what is noted of capabilities stands behind the n ranges that two slices had, and r are there now
+pub record Noted (w : Sought) (ks : List Bytes) (n : ℕ) (starts₀ sizes₀ : List ℕ) (r : ℕ) (starts sizes : List ℕ) : Type 0 where
+  pub count : r ≡ n + length (noted w ks)
+  pub ranges : paired (take r starts) (take r sizes) ≡ paired (take n starts₀) (take n sizes₀) ++ noted w ks
+
+-- a range lies inside one of the allowances
+abbrev pub insideOne : List Range → Range → Bool
+insideOne ws g = any (insideOf g) ws
+
+-- each range of the command does
+abbrev pub eachInside : List Range → Bytes → Parsed → Spot → Bool
+eachInside ws s p Absent = insideOne ws (record { start = p .start; size = p .size })
+eachInside ws s p (At d) = all (insideOne ws) (entriesFrom (d .size / 16) s (d .at))
+
+abbrev pub someOf : List Range → Bool
+someOf [] = false
+someOf (w ∷ ws) = true
+
+-- the command as a whole is admitted: some capability matches, and each range lies inside one that does
 unfoldable pub admittedIn : (cdb s : Bytes) → Parsed → Record → Bool
-admittedIn cdb s p on = somewhere (firstIn cdb s p on Matching) && allSpot cdb s p on (p .found .list)
+admittedIn cdb s p on = (let ws = noted (soughtBy p on) (piecesIn cdb s p) in someOf ws && eachInside ws s p (p .found .list))
 
 -- the part that is handed back: its bytes, and the place where they stand; an empty part of the CDB where there is none
 abbrev pub bytesAt : Place → (cdb out : Bytes) → Bytes

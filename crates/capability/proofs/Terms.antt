@@ -1,6 +1,6 @@
 -- A capability's terms, test by test, from the numbers that were read of it.
 use Prim.Native.Nat.{ℕ, _+_, _-_, _/_, _^_, _≤_, _<_}
-use mathlib.Core.Path.{_≡_, sym}
+use mathlib.Core.Path.{_≡_, refl, ap, sym, _∙_}
 use mathlib.Core.Bool.{Bool, true, false}
 use native.Mathlib.Omega.{arith}
 use lib.Dec.{eqb, leb}
@@ -10,6 +10,7 @@ use Rattle.rules.specs.declared.Range.{Range}
 use Rattle.rules.specs.declared.Verb.{Verb}
 use Rattle.rules.specs.Bytes.{Bytes, byte, field}
 use Rattle.rules.specs.Capability.{forUserObject, names, tagged, current, permits, matches, bound, inside}
+use Rattle.capability.specs.Terms.{allowance, insideOf}
 use Rattle.rules.proofs.Booleans.{same-test}
 
 -- ---- ends without a sum that wraps
@@ -100,16 +101,29 @@ module _ (k : Bytes) where
     unfolding matches
     all-but-epoch e1 e2 e3 e4 t q = rw (← e1, ← e2, ← e3, ← e4) q
 
-  -- ---- the range
-  module _ (g : Range) (allowed from : ℕ) (ea : allowed ≡ field 88 8 k) (ef : from ≡ field 96 8 k) where
-    pub starts-before : g .start < from → false ≡ inside g k
-    unfolding inside
-    starts-before h = rw (← ef, lt-leb _ _ h)
+-- ---- the range
+module _ (g w : Range) where
+  pub starts-before : g .start < w .start → false ≡ insideOf g w
+  unfolding insideOf
+  starts-before h = rw (lt-leb _ _ h)
 
-    pub everything : from ≤ g .start → allowed ≡ 0xFFFF_FFFF_FFFF_FFFF → (t : Bool) → t ≡ leb (g .start + g .size) (2 ^ 64) → t ≡ inside g k
-    unfolding inside bound
-    everything h e t q = rw (← ef, le-leb _ _ h, ← ea, eq-eqb _ _ e) q
+  pub everything : w .start ≤ g .start → w .size ≡ 0xFFFF_FFFF_FFFF_FFFF → (t : Bool) → t ≡ leb (g .start + g .size) (2 ^ 64) → t ≡ insideOf g w
+  unfolding insideOf
+  everything h e t q = rw (le-leb _ _ h, eq-eqb _ _ e) q
 
-    pub some-of-it : from ≤ g .start → (allowed ≡ 0xFFFF_FFFF_FFFF_FFFF → ⊥) → (t : Bool) → t ≡ leb (g .start + g .size) (from + allowed) → t ≡ inside g k
-    unfolding inside bound
-    some-of-it h n t q = rw (← ef, le-leb _ _ h, ← ea, ne-eqb _ _ n) q
+  pub some-of-it : w .start ≤ g .start → (w .size ≡ 0xFFFF_FFFF_FFFF_FFFF → ⊥) → (t : Bool) → t ≡ leb (g .start + g .size) (w .start + w .size) → t ≡ insideOf g w
+  unfolding insideOf
+  some-of-it h n t q = rw (le-leb _ _ h, ne-eqb _ _ n) q
+
+module _ (k : Bytes) where
+  pub allowance-is : (length start : ℕ) → length ≡ field 88 8 k → start ≡ field 96 8 k → record { start = start; size = length } ≡ allowance k
+  unfolding allowance
+  allowance-is length start el es = rw (el, es)
+
+  -- inside a capability is inside what it allows
+  pub inside-is : (g : Range) → insideOf g (allowance k) ≡ inside g k
+  unfolding inside insideOf bound allowance
+  inside-is g = refl
+
+  pub inside-told : (g w : Range) → w ≡ allowance k → (t : Bool) → t ≡ insideOf g w → t ≡ inside g k
+  inside-told g w e t q = q ∙ ap (λ (x : Range). insideOf g x) e ∙ inside-is g

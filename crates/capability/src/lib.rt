@@ -1,12 +1,21 @@
 // One capability, 104 bytes: whether it matches a command, and whether a range lies inside it.
 use rules::Range;
-use rules::Record;
 use rules::Verb;
 ghost use mathlib.Core.Path.{_≡_};
 ghost use Prim.Native.Nat.{_+_, _≤_, _^_};
 ghost use lib.Dec.{leb};
 ghost use lib.ListN.{length};
-ghost use Rattle.rules.specs.Capability.{permits, forUserObject, names, tagged, current, matches, inside};
+ghost use Rattle.rules.specs.Capability.{permits, forUserObject, names, tagged, current, inside};
+ghost use Rattle.capability.specs.Terms.{holder, meets, allowance, insideOf};
+
+// What a capability is held against: the verb and the IDs of a command, the tag and the epoch of a record.
+pub struct Sought {
+    pub verb: Verb,
+    pub partition: u64,
+    pub object: u64,
+    pub tag: u32,
+    pub epoch: u16,
+}
 
 fn permits_verb(k: &[u8], verb: Verb) -> bool
     requires { ⌜ 104 ≤ length (now k) ⌝ }
@@ -49,49 +58,50 @@ fn names_object(k: &[u8], partition: u64, object: u64) -> bool
     allowed_object == object
 }
 
-fn has_tag(k: &[u8], on: Record) -> bool
+fn has_tag(k: &[u8], by: Sought) -> bool
     requires { ⌜ 104 ≤ length (now k) ⌝ }
-    ensures { λ r. ⌜ r ≡ tagged on (now (k .entry)) ⌝ }
+    ensures { λ r. ⌜ r ≡ tagged (holder by) (now (k .entry)) ⌝ }
 {
     let tag = wire::get32(k, 60);
     if tag == 0 {
         return true;
     }
-    tag == on.tag
+    tag == by.tag
 }
 
-fn is_current(k: &[u8], on: Record) -> bool
+fn is_current(k: &[u8], by: Sought) -> bool
     requires { ⌜ 104 ≤ length (now k) ⌝ }
-    ensures { λ r. ⌜ r ≡ current on (now (k .entry)) ⌝ }
+    ensures { λ r. ⌜ r ≡ current (holder by) (now (k .entry)) ⌝ }
 {
     let epoch = wire::get16(k, 64);
     if epoch == 0 {
         return true;
     }
-    if on.epoch == 0 {
+    if by.epoch == 0 {
         return true;
     }
-    epoch == on.epoch
+    epoch == by.epoch
 }
 
-// Whether a capability matches a verb and the IDs of a CDB under a record.
-pub fn is_match(k: &[u8], verb: Verb, partition: u64, object: u64, on: Record) -> bool
+// Whether a capability matches what is sought.
+pub fn is_match(k: &[u8], by: Sought) -> bool
     requires { ⌜ 104 ≤ length (now k) ⌝ }
-    ensures { λ r. ⌜ r ≡ matches verb partition object on (now (k .entry)) ⌝ }
+    ensures { λ r. ⌜ r ≡ meets by (now (k .entry)) ⌝ }
 {
     if !is_for_user_object(k) {
         return false;
     }
+    let verb = by.verb;
     if !permits_verb(k, verb) {
         return false;
     }
-    if !names_object(k, partition, object) {
+    if !names_object(k, by.partition, by.object) {
         return false;
     }
-    if !has_tag(k, on) {
+    if !has_tag(k, by) {
         return false;
     }
-    is_current(k, on)
+    is_current(k, by)
 }
 
 // Whether a range ends at or below 2^64.
@@ -116,18 +126,36 @@ fn ends_inside(start: u64, size: u64, from: u64, allowed: u64) -> bool
     size <= allowed - skipped
 }
 
-// Whether a range lies inside a capability. Ends are compared by what is left, so that no sum can wrap.
+// The start and the length that a capability allows.
+pub fn allowance_of(k: &[u8]) -> Range
+    requires { ⌜ 104 ≤ length (now k) ⌝ }
+    ensures { λ r. ⌜ r ≡ allowance (now (k .entry)) ⌝ }
+{
+    let length = wire::get64(k, 88);
+    let start = wire::get64(k, 96);
+    Range {
+        start: start,
+        size: length,
+    }
+}
+
+// Whether a range lies inside an allowance. Ends are compared by what is left, so that no sum can wrap.
+pub fn is_allowed(g: Range, w: Range) -> bool
+    ensures { λ r. ⌜ r ≡ insideOf g w ⌝ }
+{
+    if g.start < w.start {
+        return false;
+    }
+    if w.size == 0xFFFF_FFFF_FFFF_FFFF {
+        return ends_in_range(g.start, g.size);
+    }
+    ends_inside(g.start, g.size, w.start, w.size)
+}
+
+// Whether a range lies inside a capability.
 pub fn is_inside(k: &[u8], g: Range) -> bool
     requires { ⌜ 104 ≤ length (now k) ⌝ }
     ensures { λ r. ⌜ r ≡ inside g (now (k .entry)) ⌝ }
 {
-    let allowed = wire::get64(k, 88);
-    let from = wire::get64(k, 96);
-    if g.start < from {
-        return false;
-    }
-    if allowed == 0xFFFF_FFFF_FFFF_FFFF {
-        return ends_in_range(g.start, g.size);
-    }
-    ends_inside(g.start, g.size, from, allowed)
+    is_allowed(g, allowance_of(k))
 }

@@ -29,6 +29,8 @@ use Rattle.segment.proofs.entry_at.Reads as entry-at
 use Rattle.reader.proofs.nth_of.Reads as nth-of
 use Rattle.header.proofs.read_command.Reads as read-command
 use Rattle.capability.proofs.is_match.Reads as is-match
+use Rattle.capability.proofs.allowance_of.Reads as allowance-of
+use Rattle.capability.proofs.is_allowed.Reads as is-allowed
 use Rattle.capability.proofs.is_inside.Reads as is-inside
 use Rattle.admission.proofs.is_admitted.Reads as is-admitted
 use Rattle.admission.proofs.place_that_admits.Reads as place-that-admits
@@ -141,6 +143,12 @@ one-read-command κs a r r′ s s′ e f = e ∙ sym f
 -- ---- `capability`: one capability
 one-is-match : One is-match.Post
 one-is-match κs a r r′ s s′ e f = e ∙ sym f
+
+one-allowance-of : One allowance-of.Post
+one-allowance-of κs a r r′ s s′ e f = e ∙ sym f
+
+one-is-allowed : One is-allowed.Post
+one-is-allowed κs a r r′ s s′ e f = e ∙ sym f
 
 one-is-inside : One is-inside.Post
 one-is-inside κs a r r′ s s′ e f = e ∙ sym f

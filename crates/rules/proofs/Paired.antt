@@ -1,10 +1,14 @@
 -- Two slices of numbers as ranges: what stands at a position, and what the sizes come to.
 use Prim.Native.Nat.{ℕ, zero, suc, _+_, _≤_, _<_}
-use mathlib.Core.Path.{_≡_, refl, ap}
-use mathlib.Core.List.{List, [], _∷_}
+use mathlib.Core.Path.{_≡_, refl, ap, sym, _∙_}
+use mathlib.Core.Bool.{Bool, true, false}
+use mathlib.Core.List.{List, [], _∷_, _++_}
+use native.Mathlib.Numerals.{add-one}
 use native.Mathlib.Omega.{arith}
-use lib.ListN.{length, take, drop, getD}
+use lib.ListN.{length, take, drop, getD, set}
+use lib.Seq.{take-suc-set, length-take-le}
 use Rattle.rules.specs.declared.Range.{Range}
+use Rattle.rules.specs.Bytes.{any}
 use Rattle.rules.specs.Ranges.{total}
 use Rattle.rules.specs.Writer.{paired}
 
@@ -29,6 +33,35 @@ no-pair zero os ns = refl
 no-pair (suc n) [] ns = refl
 no-pair (suc n) (o ∷ os) [] = refl
 no-pair (suc n) (o ∷ os) (m ∷ ns) = no-pair n os ns
+
+-- whether one of them passes a test, from i on
+module _ (t : Range → Bool) (os ns : List ℕ) (n i : ℕ) where
+  pub any-here : i < n → n ≤ length os → n ≤ length ns → t (pairAt os ns i) ≡ true → any t (drop i (paired (take n os) (take n ns))) ≡ true
+  unfolding any
+  any-here l h k e = rw (next-pair n i os ns l h k, e)
+
+  pub any-on : i < n → n ≤ length os → n ≤ length ns → t (pairAt os ns i) ≡ false
+      → any t (drop i (paired (take n os) (take n ns))) ≡ any t (drop (i + 1) (paired (take n os) (take n ns)))
+  unfolding any
+  any-on l h k e = rw (add-one i, next-pair n i os ns l h k, e)
+
+  pub any-none : i ≤ n → n ≤ i → any t (drop i (paired (take n os) (take n ns))) ≡ false
+  unfolding any
+  any-none l m = let e : i ≡ n = omega arith in rw (e, no-pair n os ns)
+
+-- one range more, behind the others
+paired-snoc : (os ns : List ℕ) (o n : ℕ) → length os ≡ length ns → paired (os ++ (o ∷ [])) (ns ++ (n ∷ [])) ≡ paired os ns ++ (record { start = o; size = n } ∷ [])
+unfolding paired
+paired-snoc [] [] o n e = refl
+paired-snoc [] (b ∷ ns) o n e = absurd (omega arith)
+paired-snoc (a ∷ os) [] o n e = absurd (omega arith)
+paired-snoc (a ∷ os) (b ∷ ns) o n e = ap (λ (gs : List Range). record { start = a; size = b } ∷ gs) (paired-snoc os ns o n (omega arith))
+
+pub paired-more : (os ns : List ℕ) (i o n : ℕ) → i < length os → i < length ns
+    → paired (take (i + 1) (set os i o)) (take (i + 1) (set ns i n)) ≡ paired (take i os) (take i ns) ++ (record { start = o; size = n } ∷ [])
+paired-more os ns i o n h k =
+    let same : length (take i os) ≡ length (take i ns) = length-take-le i os (omega arith) ∙ sym (length-take-le i ns (omega arith)) in
+    rw (add-one i, take-suc-set os i o h, take-suc-set ns i n k) (paired-snoc (take i os) (take i ns) o n same)
 
 -- the sum of the sizes alone
 unfoldable pub sum : List ℕ → ℕ
