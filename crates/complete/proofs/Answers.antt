@@ -22,6 +22,9 @@ use Rattle.wire.proofs.put32.Reads as put32
 use Rattle.wire.proofs.put64.Reads as put64
 use Rattle.ranges.proofs.sum_of.Reads as sum-of
 use Rattle.ranges.proofs.overlap.Reads as overlap
+use Rattle.bytes.proofs.copy.Reads as copy
+use Rattle.bytes.proofs.wipe.Reads as wipe
+use Rattle.bytes.proofs.move_down.Reads as move-down
 use Rattle.segment.proofs.standing_at.Reads as standing-at
 use Rattle.segment.proofs.step_from.Reads as step-from
 use Rattle.segment.proofs.walk_over.Reads as walk-over
@@ -36,9 +39,6 @@ use Rattle.admission.proofs.is_admitted.Reads as is-admitted
 use Rattle.admission.proofs.place_that_admits.Reads as place-that-admits
 use Rattle.admission.proofs.capability_that_admits.Reads as capability-that-admits
 use Rattle.decision.proofs.decide.Reads as decide
-use Rattle.object.proofs.copy.Reads as copy
-use Rattle.object.proofs.wipe.Reads as wipe
-use Rattle.object.proofs.move_down.Reads as move-down
 use Rattle.object.proofs.grow.Reads as grow
 use Rattle.object.proofs.write_range.Reads as write-range
 use Rattle.object.proofs.clear_range.Reads as clear-range
@@ -103,6 +103,16 @@ one-sum-of κs a r r′ s s′ e f = e (zeros (a .1 .0)) (length-replicate _ 0) 
 
 one-overlap : One overlap.Post
 one-overlap κs a r r′ s s′ e f = e ∙ sym f
+
+-- ---- `bytes`: bytes within slices
+one-copy : Left copy.Post (λ κs s. now (s .1 .1 .1 .0))
+one-copy κs a r r′ s s′ e f = e ∙ sym f
+
+one-wipe : Left wipe.Post (λ κs s. now (s .0))
+one-wipe κs a r r′ s s′ e f = e ∙ sym f
+
+one-move-down : Left move-down.Post (λ κs s. now (s .0))
+one-move-down κs a r r′ s s′ e f = e ∙ sym f
 
 -- ---- `segment`: the walk
 one-standing-at : One standing-at.Post
@@ -170,16 +180,7 @@ one-capability-that-admits κs a r r′ s s′ e f = (e .bytes ∙ sym (f .bytes
 one-decide : One decide.Post
 one-decide κs a r r′ s s′ e f = e ∙ sym f
 
--- ---- `object`: the movers
-one-copy : Left copy.Post (λ κs s. now (s .1 .1 .1 .0))
-one-copy κs a r r′ s s′ e f = e ∙ sym f
-
-one-wipe : Left wipe.Post (λ κs s. now (s .0))
-one-wipe κs a r r′ s s′ e f = e ∙ sym f
-
-one-move-down : Left move-down.Post (λ κs s. now (s .0))
-one-move-down κs a r r′ s s′ e f = e ∙ sym f
-
+-- ---- `object`: an object's bytes
 one-grow : Left grow.Post (λ κs s. now (s .0))
 one-grow κs a r r′ s s′ e f = e ∙ sym f
 

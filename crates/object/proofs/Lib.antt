@@ -1,5 +1,3 @@
-pub mod Laying
-pub mod Blocks
 pub mod Raising
 pub mod Within
 pub mod Entries

@@ -5,7 +5,7 @@ use mathlib.Core.Logic.{_⊎_, inl, inr, ⊎-elim}
 use mathlib.Core.List.{[], _∷_}
 use native.Mathlib.Nat.{add-sub-of-le, le-of-eq}
 use native.Mathlib.Omega.{arith}
-use lib.ListN.{length, take, length-replicate}
+use lib.ListN.{length, take}
 use lib.Seq.{ext-getD, take-all}
 use borrow.Author.Tests.{eq-eqb, ne-eqb}
 use Rattle.rules.specs.declared.Range.{Range}
@@ -13,6 +13,7 @@ use Rattle.rules.specs.Bytes.{Bytes, byte, zeros, laid}
 use Rattle.rules.specs.Ranges.{end, reach}
 use Rattle.rules.specs.Object.{scattered, grown}
 use Rattle.rules.proofs.Booleans.{lt-or-le}
+use Rattle.rules.proofs.Laying.{length-zeros}
 use Rattle.rules.proofs.Lists.{laid-nothing, laid-length, laid-below, laid-within, laid-above}
 use Rattle.rules.proofs.Write.{grown-length, grown-zero, grown-other}
 
@@ -38,9 +39,6 @@ laid-hides at d a b fits e around =
         rw (← back) (laid-within at d a (p - at) (omega arith) (omega arith) ∙ sym (laid-within at d b (p - at) (omega (arith, fits′)) (omega arith)))
 
 -- what CLEAR lays: as many zeros as the range has bytes
-pub length-zeros : (n : ℕ) → length (zeros n) ≡ n
-length-zeros n = length-replicate n 0
-
 pub zeros-all : (n : ℕ) → take n (zeros n) ≡ zeros n
 zeros-all n = take-all n (zeros n) (le-of-eq (length-zeros n))
 

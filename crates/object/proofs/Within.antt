@@ -12,7 +12,7 @@ use Rattle.rules.specs.Bytes.{Bytes, part, zeros, laid}
 use Rattle.rules.specs.Ranges.{end}
 use Rattle.rules.specs.Object.{punched}
 use Rattle.rules.proofs.Booleans.{lt-or-le}
-use Rattle.object.proofs.Laying.{part-length}
+use Rattle.rules.proofs.Laying.{length-part}
 
 drop-take : (a n : ℕ) (s : Bytes) → drop a (take n s) ≡ take (n - a) (drop a s)
 drop-take zero n s = rw sub-zero
@@ -98,7 +98,7 @@ module _ (g : Range) (n : ℕ) (s : Bytes) (begins : g .start ≤ n) (fits : n �
   unfolding laid
   cut-done moved wiped em ew =
       let m : ℕ = n - g .start - count in
-      let p : length (part (g .start + count) m s) ≡ m = part-length (g .start + count) m s (omega arith) in
+      let p : length (part (g .start + count) m s) ≡ m = length-part (g .start + count) m s (omega arith) in
       let w : g .start + m + count ≡ n = omega arith in
       let front : moved ≡ left g n s ++ drop (g .start + m) s = em ∙ rw (p, ← left-is) in
       let low : take (g .start + m) moved ≡ left g n s = rw front (take-at (left g n s) _ (g .start + m) left-length) in

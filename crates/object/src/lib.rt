@@ -1,10 +1,10 @@
-// The movers on byte slices, each with what every byte is afterwards. No byte is read but those that move, and none is written but
-// where one goes.
+// The movers of an object's bytes: grow, punch, write and clear a range, gather, scatter. Each says what every byte of the slices it
+// writes is afterwards.
 use rules::Range;
 ghost use mathlib.Core.Path.{_≡_};
 ghost use mathlib.Core.Bool.{false};
 ghost use mathlib.Core.List.{[], _∷_, _++_};
-ghost use Prim.Native.Nat.{_+_, _-_, _*_, _<_, _≤_, min, max};
+ghost use Prim.Native.Nat.{_+_, _-_, _*_, _≤_, min, max};
 ghost use lib.ListN.{length, take, drop};
 ghost use lib.Dec.{ltb};
 ghost use Rattle.rules.specs.Bytes.{part, zeros, laid, any};
@@ -12,91 +12,11 @@ ghost use Rattle.rules.specs.Ranges.{total, reach};
 ghost use Rattle.rules.specs.Segment.{entriesFrom};
 ghost use Rattle.rules.specs.Object.{gathered, scattered, grown, punched};
 
-// the smaller of two numbers
-fn least(a: u64, b: usize) -> usize
-    ensures { λ r. ⌜ r ≡ min a b ⌝ }
-{
-    if a < b as u64 {
-        return a as usize;
-    }
-    b
-}
-
-// Byte by byte. Of no bytes `start` may lie anywhere, as an empty range of a WRITE may.
-fn copy_bytes(from: &[u8], at: usize, n: usize, to: &mut [u8], start: usize)
-    requires { ⌜ (at + n ≤ length (now from)) × (0 < n → start + n ≤ length (now to)) ⌝ }
-    ensures { λ _. ⌜ now (to .exit) ≡ laid start (part at n (now (from .entry))) (now (to .entry)) ⌝ }
-{
-    let mut i = 0;
-    while i < n {
-        to[start + i] = from[at + i];
-        i += 1;
-    }
-}
-
-// Through a local array, which nothing else can reach. So the compiler sees that all is read before anything is written: it
-// leaves the array out and calls the C library's memmove, which no loop of bytes between two lent slices comes to.
-fn copy_block(from: &[u8], at: usize, n: usize, to: &mut [u8], start: usize)
-    requires { ⌜ (n ≤ 16384) × (at + n ≤ length (now from)) × (start + n ≤ length (now to)) ⌝ }
-    ensures { λ _. ⌜ now (to .exit) ≡ laid start (part at n (now (from .entry))) (now (to .entry)) ⌝ }
-{
-    let mut block = [0u8; 16384];
-    copy_bytes(from, at, n, &mut block, 0);
-    copy_bytes(&block, 0, n, to, start);
-}
-
-// By blocks. Of no bytes `start` may lie anywhere here too.
-pub fn copy(from: &[u8], at: usize, n: usize, to: &mut [u8], start: usize)
-    requires { ⌜ (at + n ≤ length (now from)) × (0 < n → start + n ≤ length (now to)) ⌝ }
-    ensures { λ _. ⌜ now (to .exit) ≡ laid start (part at n (now (from .entry))) (now (to .entry)) ⌝ }
-{
-    let mut done = 0;
-    while done < n {
-        let size = least((n - done) as u64, 16384);
-        copy_block(from, at + done, size, to, start + done);
-        done += size;
-    }
-}
-
-pub fn wipe(s: &mut [u8], start: usize, n: usize)
-    requires { ⌜ (0 < n → start + n ≤ length (now s)) ⌝ }
-    ensures { λ _. ⌜ now (s .exit) ≡ laid start (zeros n) (now (s .entry)) ⌝ }
-{
-    let mut i = 0;
-    while i < n {
-        s[start + i] = 0;
-        i += 1;
-    }
-}
-
-// A block as in `copy_block`, within one slice.
-fn move_block(s: &mut [u8], from: usize, n: usize, to: usize)
-    requires { ⌜ (n ≤ 16384) × (from + n ≤ length (now s)) × (to + n ≤ length (now s)) ⌝ }
-    ensures { λ _. ⌜ now (s .exit) ≡ laid to (part from n (now (s .entry))) (now (s .entry)) ⌝ }
-{
-    let mut block = [0u8; 16384];
-    copy_bytes(s, from, n, &mut block, 0);
-    copy_bytes(&block, 0, n, s, to);
-}
-
-// In place, ascending: a block is read before another is written over it.
-pub fn move_down(s: &mut [u8], from: usize, n: usize, to: usize)
-    requires { ⌜ (to ≤ from) × (from + n ≤ length (now s)) ⌝ }
-    ensures { λ _. ⌜ now (s .exit) ≡ laid to (part from n (now (s .entry))) (now (s .entry)) ⌝ }
-{
-    let mut done = 0;
-    while done < n {
-        let size = least((n - done) as u64, 16384);
-        move_block(s, from + done, size, to + done);
-        done += size;
-    }
-}
-
 pub fn grow(s: &mut [u8], old: usize, new: usize)
     requires { ⌜ (old ≤ new) × (new ≤ length (now s)) ⌝ }
     ensures { λ _. ⌜ now (s .exit) ≡ grown old new (now (s .entry)) ⌝ }
 {
-    wipe(s, old, new - old);
+    bytes::wipe(s, old, new - old);
 }
 
 fn largest(a: usize, b: usize) -> usize
@@ -118,7 +38,7 @@ pub fn write_range(slice: &mut [u8], logical: usize, g: Range, out: &[u8], from:
     }
     let start = g.start as usize;
     grow(slice, logical, largest(logical, start));
-    copy(out, from, g.size as usize, slice, start);
+    bytes::copy(out, from, g.size as usize, slice, start);
 }
 
 // CLEAR of one range, in the same two steps.
@@ -131,7 +51,19 @@ pub fn clear_range(slice: &mut [u8], logical: usize, g: Range)
     }
     let start = g.start as usize;
     grow(slice, logical, largest(logical, start));
-    wipe(slice, start, g.size as usize);
+    bytes::wipe(slice, start, g.size as usize);
+}
+
+// how many of the range's bytes the object has
+fn count_in(g: Range, logical: usize) -> usize
+    requires { ⌜ g .start ≤ logical ⌝ }
+    ensures { λ r. ⌜ r ≡ min (g .size) (logical - g .start) ⌝ }
+{
+    let most = logical - g.start as usize;
+    if g.size < most as u64 {
+        return g.size as usize;
+    }
+    most
 }
 
 // The object is the slice's first `logical` bytes; the answer is how many of them the range had.
@@ -141,13 +73,13 @@ pub fn punch(s: &mut [u8], logical: usize, g: Range) -> usize
         (r ≡ logical - length o) × (now (s .exit) ≡ o ++ zeros (logical - length o) ++ drop logical (now (s .entry)))) ⌝ }
 {
     let start = g.start as usize;
-    let count = least(g.size, logical - start);
+    let count = count_in(g, logical);
     if count == 0 {
         return 0;
     }
     let behind = logical - start - count;
-    move_down(s, start + count, behind, start);
-    wipe(s, start + behind, count);
+    bytes::move_down(s, start + count, behind, start);
+    bytes::wipe(s, start + behind, count);
     count
 }
 
@@ -158,8 +90,8 @@ pub fn gather(slice: &[u8], logical: usize, g: Range, input: &mut [u8], to: usiz
         (r ≡ length d) × (now (input .exit) ≡ laid to d (now (input .entry)))) ⌝ }
 {
     let start = g.start as usize;
-    let n = least(g.size, logical - start);
-    copy(slice, start, n, input, to);
+    let n = count_in(g, logical);
+    bytes::copy(slice, start, n, input, to);
     n
 }
 
@@ -206,7 +138,7 @@ pub fn scatter_list(s: &[u8], at: usize, n: usize, out: &[u8], from: usize, slic
     while 0 < left {
         let g = segment::entry_at(s, place);
         let size = g.size as usize;
-        copy(out, next, size, slice, g.start as usize);
+        bytes::copy(out, next, size, slice, g.start as usize);
         next += size;
         place += 16;
         left -= 1;

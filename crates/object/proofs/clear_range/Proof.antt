@@ -2,8 +2,8 @@
 use mathlib.Core.Path.{sym}
 use borrow.Author.Needs.{needs}
 use denote.Ref.{now}
-use Rattle.object.proofs.Raising.{length-zeros, zeros-all}
-use Rattle.object.proofs.Raising.{raises-nothing, gap-asks, fill-asks, raises}
+use Rattle.rules.proofs.Laying.{length-zeros}
+use Rattle.object.proofs.Raising.{zeros-all, raises-nothing, gap-asks, fill-asks, raises}
 use Rattle.object.proofs.clear_range.Statement.{statement}
 use Rattle.object.proofs.clear_range.Tie as tie
 

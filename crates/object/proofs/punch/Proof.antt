@@ -4,16 +4,13 @@ use Rattle.object.proofs.Within.{cut-nothing, cut-done}
 use Rattle.object.proofs.punch.Statement.{statement}
 use Rattle.object.proofs.punch.Tie as tie
 
-sub-least : tie.Need-sub-least
-sub-least c = search needs
-
-least-requires : tie.Need-least-requires
-least-requires c κs = search needs
+count-in-requires : tie.Need-count-in-requires
+count-in-requires c κs = search needs
 
 returns : tie.Need-returns
 returns c =
     let start = c .before .before .before in
-    let count = c .before .least in
+    let count = c .before .count-in in
     cut-nothing _ _ _ (start .pre .0) (start .pre .1) _ (count .ensures) (c .if1 .taken)
 
 sub-behind : tie.Need-sub-behind
@@ -40,7 +37,7 @@ same-length c = search needs
 returns-2 : tie.Need-returns-2
 returns-2 c =
     let start = c .before .before .before .before .before .before .before .before .before .before .before in
-    let count = c .before .before .before .before .before .before .before .before .before .least in
+    let count = c .before .before .before .before .before .before .before .before .before .count-in in
     let moved = c .before .before .before .before .before .before .move-down .ensures in
     cut-done _ _ _ (start .pre .0) (start .pre .1) _ (count .ensures) _ _ moved (c .before .before .wipe .ensures)
 
@@ -48,8 +45,7 @@ pub punch-spec : {M : Type 1} → statement M
 punch-spec =
     tie.close
     (tie.spec
-    sub-least
-    least-requires
+    count-in-requires
     returns
     sub-behind
     sub-behind-2

@@ -2,7 +2,7 @@
 use mathlib.Core.Path.{refl}
 use borrow.Author.Needs.{needs}
 use denote.Ref.{now}
-use Rattle.object.proofs.Laying.{part-length}
+use Rattle.rules.proofs.Laying.{length-part}
 use Rattle.object.proofs.Raising.{raises-nothing, gap-asks, fill-asks, raises}
 use Rattle.object.proofs.write_range.Statement.{statement}
 use Rattle.object.proofs.write_range.Tie as tie
@@ -24,7 +24,7 @@ same-length c = search needs
 
 returns-2 : tie.Need-returns-2
 returns-2 c =
-    raises _ _ _ (c .before .before .before .before .before .before .before .before .before .before .before .before .before .pre .1) (c .before .before .before .before .before .before .before .before .before .if1 .left) _ (c .before .before .before .before .before .before .before .largest .ensures) _ (c .before .before .before .before .before .before .grow .ensures) _ _ (part-length _ _ _ (c .before .before .before .before .before .before .before .before .before .before .before .before .before .pre .0)) refl _ (c .before .before .copy .ensures)
+    raises _ _ _ (c .before .before .before .before .before .before .before .before .before .before .before .before .before .pre .1) (c .before .before .before .before .before .before .before .before .before .if1 .left) _ (c .before .before .before .before .before .before .before .largest .ensures) _ (c .before .before .before .before .before .before .grow .ensures) _ _ (length-part _ _ _ (c .before .before .before .before .before .before .before .before .before .before .before .before .before .pre .0)) refl _ (c .before .before .copy .ensures)
 
 pub write-range-spec : {M : Type 1} → statement M
 write-range-spec = tie.close (tie.spec returns largest-requires grow-requires copy-requires same-length returns-2)

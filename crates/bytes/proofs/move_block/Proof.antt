@@ -1,8 +1,8 @@
--- `object::copy_block` meets its contract: the array's front is the part, and it is laid.
+-- `bytes::move_block` meets its contract: the array's front is the part, and it is laid.
 use borrow.Author.Needs.{needs}
-use Rattle.object.proofs.Blocks.{through}
-use Rattle.object.proofs.copy_block.Statement.{statement}
-use Rattle.object.proofs.copy_block.Tie as tie
+use Rattle.bytes.proofs.Blocks.{through}
+use Rattle.bytes.proofs.move_block.Statement.{statement}
+use Rattle.bytes.proofs.move_block.Tie as tie
 
 slice-aggregate-copy-bytes : tie.Need-slice-aggregate-copy-bytes
 slice-aggregate-copy-bytes c = search needs
@@ -25,8 +25,8 @@ returns c =
     let filled = c .before .before .before .before .before .before .copy-bytes .ensures in
     through _ _ _ _ _ _ _ _ (pre .1) filled (c .before .before .copy-bytes2 .ensures)
 
-pub copy-block-spec : {M : Type 1} → statement M
-copy-block-spec =
+pub move-block-spec : {M : Type 1} → statement M
+move-block-spec =
     tie.close
     (tie.spec
     slice-aggregate-copy-bytes

@@ -1,20 +1,23 @@
--- `object::copy_bytes` meets its contract: after i turns, i of the part's bytes are laid.
+-- `bytes::copy_bytes` meets its contract: after i turns, i of the part's bytes are laid.
 use Prim.Native.Nat.{_-_}
+use mathlib.Core.Path.{refl}
 use borrow.Author.Needs.{needs}
 use native.Mathlib.Omega.{arith}
+use lib.ListN.{length-set}
 use Rattle.rules.specs.Bytes.{part}
-use Rattle.object.proofs.Laying.{Laying, laying-none, laying-more, laying-done, part-length, part-byte}
-use Rattle.object.proofs.copy_bytes.Statement.{statement}
-use Rattle.object.proofs.copy_bytes.Tie as tie
+use Rattle.rules.proofs.Laying.{copy-step}
+use Rattle.bytes.proofs.Moving.{Moved, moved-none, moved-more, moved-all}
+use Rattle.bytes.proofs.copy_bytes.Statement.{statement}
+use Rattle.bytes.proofs.copy_bytes.Tie as tie
 
 abbrev Inv-loop : tie.InvT-loop
-Inv-loop from at n to₀ start i₀ to i = Laying to₀ start (part at n from) to i
+Inv-loop from at n to₀ start i₀ to i = Moved (λ k. part at k from) to₀ start n to i
 
 abbrev μ-loop : tie.MeasureT-loop
 μ-loop from at n to₀ start i₀ to i = n - i
 
 loop-holds : tie.Need-loop-holds Inv-loop μ-loop
-loop-holds c = laying-none _ _ _
+loop-holds c = moved-none _ _ _ _ refl
 
 add-to : tie.Need-add-to Inv-loop μ-loop
 add-to c = search needs
@@ -36,21 +39,16 @@ loop-less c = search needs
 
 loop-again : tie.Need-loop-again Inv-loop μ-loop
 loop-again c =
-    let a = c .before .before .before .args in
     let l = c .before .before .loop in
-    let long = part-length (a .at) (a .n) (a .from .now) (c .before .before .before .pre .0) in
+    let from = c .before .before .before .args .from .now in
     let room = c .before .before .before .pre .1 (omega arith) in
-    let next = part-byte (a .at) (a .n) (a .from .now) (l .i) (c .before .loop-test .taken) in
-    laying-more _ _ _ _ _ _ (omega arith) (omega arith) next (l .inv)
+    moved-more _ _ _ _ _ _ _ _ (omega arith) (length-set (l .to) _ _) (copy-step _ _ _ _ from _ (omega arith) (omega arith) (l .inv .so-far)) (l .inv)
 
 same-length : tie.Need-same-length Inv-loop μ-loop
 same-length c = c .before .loop .inv .long
 
 returns : tie.Need-returns Inv-loop μ-loop
-returns c =
-    let a = c .before .before .args in
-    let long = part-length (a .at) (a .n) (a .from .now) (c .before .before .pre .0) in
-    laying-done _ _ _ _ _ (omega (arith, c .before .loop .inv .within)) (c .before .loop .inv)
+returns c = moved-all _ _ _ _ _ _ (omega arith) (c .before .loop .inv)
 
 pub copy-bytes-spec : {M : Type 1} → statement M
 copy-bytes-spec =
