@@ -40,27 +40,26 @@ pub record Ahead (x y : Bytes) (p : ℕ) : Type 0 where
   pub same : drop p y ≡ drop p x
 
 -- The loop of `copy` and of `move_down`: n bytes of x from `at` on are laid over s₀ from `start` on, a block in each turn.
-module _ (x s₀ : Bytes) (at start n : ℕ) (have : at + n ≤ length x) where
-  -- a turn lays the next block, which is read from y: x itself, or what x has become
-  module _ (room : 0 < n → start + n ≤ length s₀) (y s : Bytes) (i k : ℕ) (more : i < n) (size : k ≡ min (n - i) 16384)
-      (m : Moved (λ j. part at j x) s₀ start n s i) (ahead : Ahead x y (at + i)) where
-    pub turn-asks : (k ≤ 16384) × (at + i + k ≤ length y) × (start + i + k ≤ length s)
-    turn-asks =
-        let fits : start + n ≤ length s₀ = room (omega arith) in
-        (omega arith, omega (arith, ahead .long), omega (arith, m .long))
+-- A turn lays the next block, which is read from y: x itself, or what x has become.
+module _ (x s₀ : Bytes) (at start n : ℕ) (have : at + n ≤ length x) (room : 0 < n → start + n ≤ length s₀) (y s : Bytes) (i k : ℕ)
+    (more : i < n) (size : k ≡ min (n - i) 16384) (m : Moved (λ j. part at j x) s₀ start n s i) (ahead : Ahead x y (at + i)) where
+  pub turn-asks : (k ≤ 16384) × (at + i + k ≤ length y) × (start + i + k ≤ length s)
+  turn-asks =
+      let fits : start + n ≤ length s₀ = room (omega arith) in
+      (omega arith, omega (arith, ahead .long), omega (arith, m .long))
 
-    pub turn : (t : Bytes) → t ≡ laid (start + i) (part (at + i) k y) s → Moved (λ j. part at j x) s₀ start n t (i + k)
-    turn t e =
-        let fits : start + n ≤ length s₀ = room (omega arith) in
-        let first : length (part at i x) ≡ i = length-part at i x (omega arith) in
-        let next : length (part (at + i) k x) ≡ k = length-part (at + i) k x (omega arith) in
-        let stood : t ≡ laid (start + i) (part (at + i) k x) s = e ∙ ap (λ (l : Bytes). laid (start + i) (take k l) s) (ahead .same) in
-        let end : start + i + length (part (at + i) k x) ≤ length s = rw (next, m .long) (omega arith) in
-        let joined : laid (start + i) (part (at + i) k x) s ≡ laid start (part at i x ++ part (at + i) k x) s₀ =
-        rw (m .so-far) (ap (λ (j : ℕ). laid (start + j) (part (at + i) k x) (laid start (part at i x) s₀)) (sym first)
-        ∙ laid-next start (part at i x) (part (at + i) k x) s₀ (omega arith)) in
-        moved-more _ _ _ _ s t i k (omega arith) (ap length stood ∙ laid-length (start + i) (part (at + i) k x) s end)
-        (stood ∙ joined ∙ ap (λ (b : Bytes). laid start b s₀) (part-more at i k x)) m
+  pub turn : (t : Bytes) → t ≡ laid (start + i) (part (at + i) k y) s → Moved (λ j. part at j x) s₀ start n t (i + k)
+  turn t e =
+      let fits : start + n ≤ length s₀ = room (omega arith) in
+      let first : length (part at i x) ≡ i = length-part at i x (omega arith) in
+      let next : length (part (at + i) k x) ≡ k = length-part (at + i) k x (omega arith) in
+      let stood : t ≡ laid (start + i) (part (at + i) k x) s = e ∙ ap (λ (l : Bytes). laid (start + i) (take k l) s) (ahead .same) in
+      let end : start + i + length (part (at + i) k x) ≤ length s = rw (next, m .long) (omega arith) in
+      let joined : laid (start + i) (part (at + i) k x) s ≡ laid start (part at i x ++ part (at + i) k x) s₀ =
+      rw (m .so-far) (ap (λ (j : ℕ). laid (start + j) (part (at + i) k x) (laid start (part at i x) s₀)) (sym first)
+      ∙ laid-next start (part at i x) (part (at + i) k x) s₀ (omega arith)) in
+      moved-more _ _ _ _ s t i k (omega arith) (ap length stood ∙ laid-length (start + i) (part (at + i) k x) s end)
+      (stood ∙ joined ∙ ap (λ (b : Bytes). laid start b s₀) (part-more at i k x)) m
 
 -- the two ways to have what is ahead: x is not written
 pub ahead-apart : (x : Bytes) (p : ℕ) → Ahead x x p
