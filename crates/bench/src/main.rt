@@ -119,7 +119,7 @@ fn carry_out(cdb: &[u8], out: &[u8], on: Record, slice: &[u8]) -> Answer
     let mut lent = [0u8; 16384];
     let mut input = [0u8; 4096];
     let size = slice.len();
-    bytes::copy(slice, 0, size, &mut lent, 0);
+    movers::copy(slice, 0, size, &mut lent, 0);
     engine::execute(cdb, out, on, &mut lent[..size], &mut input)
 }
 

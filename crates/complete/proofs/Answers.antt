@@ -22,9 +22,9 @@ use Rattle.wire.proofs.put32.Reads as put32
 use Rattle.wire.proofs.put64.Reads as put64
 use Rattle.ranges.proofs.sum_of.Reads as sum-of
 use Rattle.ranges.proofs.overlap.Reads as overlap
-use Rattle.bytes.proofs.copy.Reads as copy
-use Rattle.bytes.proofs.wipe.Reads as wipe
-use Rattle.bytes.proofs.move_down.Reads as move-down
+use Rattle.movers.proofs.copy.Reads as copy
+use Rattle.movers.proofs.wipe.Reads as wipe
+use Rattle.movers.proofs.move_down.Reads as move-down
 use Rattle.segment.proofs.standing_at.Reads as standing-at
 use Rattle.segment.proofs.step_from.Reads as step-from
 use Rattle.segment.proofs.walk_over.Reads as walk-over
@@ -104,7 +104,7 @@ one-sum-of κs a r r′ s s′ e f = e (zeros (a .1 .0)) (length-replicate _ 0) 
 one-overlap : One overlap.Post
 one-overlap κs a r r′ s s′ e f = e ∙ sym f
 
--- ---- `bytes`: bytes within slices
+-- ---- `movers`: bytes within slices
 one-copy : Left copy.Post (λ κs s. now (s .1 .1 .1 .0))
 one-copy κs a r r′ s s′ e f = e ∙ sym f
 

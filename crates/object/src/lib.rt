@@ -16,7 +16,7 @@ pub fn grow(s: &mut [u8], old: usize, new: usize)
     requires { ⌜ (old ≤ new) × (new ≤ length (now s)) ⌝ }
     ensures { λ _. ⌜ now (s .exit) ≡ grown old new (now (s .entry)) ⌝ }
 {
-    bytes::wipe(s, old, new - old);
+    movers::wipe(s, old, new - old);
 }
 
 fn largest(a: usize, b: usize) -> usize
@@ -38,7 +38,7 @@ pub fn write_range(slice: &mut [u8], logical: usize, g: Range, out: &[u8], from:
     }
     let start = g.start as usize;
     grow(slice, logical, largest(logical, start));
-    bytes::copy(out, from, g.size as usize, slice, start);
+    movers::copy(out, from, g.size as usize, slice, start);
 }
 
 // CLEAR of one range, in the same two steps.
@@ -51,7 +51,7 @@ pub fn clear_range(slice: &mut [u8], logical: usize, g: Range)
     }
     let start = g.start as usize;
     grow(slice, logical, largest(logical, start));
-    bytes::wipe(slice, start, g.size as usize);
+    movers::wipe(slice, start, g.size as usize);
 }
 
 // how many of the range's bytes the object has
@@ -78,8 +78,8 @@ pub fn punch(s: &mut [u8], logical: usize, g: Range) -> usize
         return 0;
     }
     let behind = logical - start - count;
-    bytes::move_down(s, start + count, behind, start);
-    bytes::wipe(s, start + behind, count);
+    movers::move_down(s, start + count, behind, start);
+    movers::wipe(s, start + behind, count);
     count
 }
 
@@ -91,7 +91,7 @@ pub fn gather(slice: &[u8], logical: usize, g: Range, input: &mut [u8], to: usiz
 {
     let start = g.start as usize;
     let n = count_in(g, logical);
-    bytes::copy(slice, start, n, input, to);
+    movers::copy(slice, start, n, input, to);
     n
 }
 
@@ -138,7 +138,7 @@ pub fn scatter_list(s: &[u8], at: usize, n: usize, out: &[u8], from: usize, slic
     while 0 < left {
         let g = segment::entry_at(s, place);
         let size = g.size as usize;
-        bytes::copy(out, next, size, slice, g.start as usize);
+        movers::copy(out, next, size, slice, g.start as usize);
         next += size;
         place += 16;
         left -= 1;

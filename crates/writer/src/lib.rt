@@ -133,10 +133,10 @@ fn put_head(cdb: &mut [u8], action: u16)
     ensures { λ _. ⌜ now (cdb .exit) ≡ laid 0 (cdbHead action) (now (cdb .entry)) ⌝ }
 {
     put8(cdb, 0, 0x7F);
-    bytes::wipe(cdb, 1, 6);
+    movers::wipe(cdb, 1, 6);
     put8(cdb, 7, 228);
     wire::put16(cdb, 8, action);
-    bytes::wipe(cdb, 10, 6);
+    movers::wipe(cdb, 10, 6);
 }
 
 // Bytes 16 to 79 of the CDB.
@@ -149,7 +149,7 @@ fn put_fields(cdb: &mut [u8], partition: u64, object: u64, size: u64, start: u64
     wire::put64(cdb, 32, size);
     wire::put64(cdb, 40, start);
     wire::put32(cdb, 48, continuation);
-    bytes::wipe(cdb, 52, 28);
+    movers::wipe(cdb, 52, 28);
 }
 
 // Bytes 80 to 235 of the CDB.
@@ -157,8 +157,8 @@ fn put_capability(cdb: &mut [u8], capabilities: &[u8])
     requires { ⌜ (236 ≤ length (now cdb)) × (104 ≤ length (now capabilities)) ⌝ }
     ensures { λ _. ⌜ now (cdb .exit) ≡ laid 80 (cdbCapability (now (capabilities .entry))) (now (cdb .entry)) ⌝ }
 {
-    bytes::copy(capabilities, 0, 104, cdb, 80);
-    bytes::wipe(cdb, 184, 52);
+    movers::copy(capabilities, 0, 104, cdb, 80);
+    movers::wipe(cdb, 184, 52);
 }
 
 // Bytes 0 to 39 of the segment.
@@ -169,7 +169,7 @@ fn put_segment_head(segment: &mut [u8], action: u16)
     put8(segment, 0, 0x01);
     put8(segment, 1, 0);
     wire::put16(segment, 2, action);
-    bytes::wipe(segment, 4, 36);
+    movers::wipe(segment, 4, 36);
 }
 
 // A descriptor's own eight bytes.
@@ -178,7 +178,7 @@ fn put_descriptor(segment: &mut [u8], at: usize, kind: u16, size: u32)
     ensures { λ _. ⌜ now (segment .exit) ≡ laid at (toBe 2 kind ++ zeros 2 ++ toBe 4 size) (now (segment .entry)) ⌝ }
 {
     wire::put16(segment, at, kind);
-    bytes::wipe(segment, at + 2, 2);
+    movers::wipe(segment, at + 2, 2);
     wire::put32(segment, at + 4, size);
 }
 
@@ -223,7 +223,7 @@ fn put_extension(segment: &mut [u8], at: usize, capabilities: &[u8])
         return;
     }
     put_descriptor(segment, at, 0xFFEE, (size - 104) as u32);
-    bytes::copy(capabilities, 104, size - 104, segment, at + 8);
+    movers::copy(capabilities, 104, size - 104, segment, at + 8);
 }
 
 // Head, list and extension, one behind the other. With neither list nor extension there is no segment.

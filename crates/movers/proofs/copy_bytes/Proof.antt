@@ -1,4 +1,4 @@
--- `bytes::copy_bytes` meets its contract: after i turns, i of the part's bytes are laid.
+-- `movers::copy_bytes` meets its contract: after i turns, i of the part's bytes are laid.
 use Prim.Native.Nat.{_-_}
 use mathlib.Core.Path.{refl}
 use borrow.Author.Needs.{needs}
@@ -6,9 +6,9 @@ use native.Mathlib.Omega.{arith}
 use lib.ListN.{length-set}
 use Rattle.rules.specs.Bytes.{part}
 use Rattle.rules.proofs.Laying.{copy-step}
-use Rattle.bytes.proofs.Moving.{Moved, moved-none, moved-more, moved-all}
-use Rattle.bytes.proofs.copy_bytes.Statement.{statement}
-use Rattle.bytes.proofs.copy_bytes.Tie as tie
+use Rattle.movers.proofs.Moving.{Moved, moved-none, moved-more, moved-all}
+use Rattle.movers.proofs.copy_bytes.Statement.{statement}
+use Rattle.movers.proofs.copy_bytes.Tie as tie
 
 abbrev Inv-loop : tie.InvT-loop
 Inv-loop from at n to₀ start i₀ to i = Moved (λ k. part at k from) to₀ start n to i

@@ -1,8 +1,8 @@
--- `bytes::move_block` meets its contract: the array's front is the part, and it is laid.
+-- `movers::move_block` meets its contract: the array's front is the part, and it is laid.
 use borrow.Author.Needs.{needs}
-use Rattle.bytes.proofs.Blocks.{through}
-use Rattle.bytes.proofs.move_block.Statement.{statement}
-use Rattle.bytes.proofs.move_block.Tie as tie
+use Rattle.movers.proofs.Blocks.{through}
+use Rattle.movers.proofs.move_block.Statement.{statement}
+use Rattle.movers.proofs.move_block.Tie as tie
 
 returns : tie.Need-returns
 returns c =

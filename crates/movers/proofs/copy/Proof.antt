@@ -1,13 +1,13 @@
--- `bytes::copy` meets its contract: after each turn, a block more of the part is laid.
+-- `movers::copy` meets its contract: after each turn, a block more of the part is laid.
 use Prim.Native.Nat.{_-_}
 use mathlib.Core.Path.{refl}
 use borrow.Author.Needs.{needs}
 use native.Mathlib.Omega.{arith}
 use Rattle.rules.specs.Bytes.{part}
-use Rattle.bytes.proofs.Moving.{Moved, moved-none, moved-all}
-use Rattle.bytes.proofs.Blocks.{turn-asks, turn, ahead-apart}
-use Rattle.bytes.proofs.copy.Statement.{statement}
-use Rattle.bytes.proofs.copy.Tie as tie
+use Rattle.movers.proofs.Moving.{Moved, moved-none, moved-all}
+use Rattle.movers.proofs.Blocks.{turn-asks, turn, ahead-apart}
+use Rattle.movers.proofs.copy.Statement.{statement}
+use Rattle.movers.proofs.copy.Tie as tie
 
 abbrev Inv-loop : tie.InvT-loop
 Inv-loop from at n to₀ start done₀ to done = Moved (λ k. part at k from) to₀ start n to done

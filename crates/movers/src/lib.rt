@@ -1,4 +1,4 @@
-// Bytes within slices: copy, wipe, move down, each with what every byte is afterwards. No byte is read but those that move, and
+// The movers of bytes within slices: copy, wipe, move down, each with what every byte is afterwards. No byte is read but those that move, and
 // none is written but where one goes.
 ghost use mathlib.Core.Path.{_≡_};
 ghost use Prim.Native.Nat.{_+_, _<_, _≤_, min};

@@ -1,13 +1,13 @@
--- `bytes::move_down` meets its contract: after each turn, a block more of the part is laid, and the next one still stands where it stood.
+-- `movers::move_down` meets its contract: after each turn, a block more of the part is laid, and the next one still stands where it stood.
 use Prim.Native.Nat.{_-_}
 use mathlib.Core.Path.{refl}
 use borrow.Author.Needs.{needs}
 use native.Mathlib.Omega.{arith}
 use Rattle.rules.specs.Bytes.{part}
-use Rattle.bytes.proofs.Moving.{Moved, moved-none, moved-all}
-use Rattle.bytes.proofs.Blocks.{turn-asks, turn, ahead-below}
-use Rattle.bytes.proofs.move_down.Statement.{statement}
-use Rattle.bytes.proofs.move_down.Tie as tie
+use Rattle.movers.proofs.Moving.{Moved, moved-none, moved-all}
+use Rattle.movers.proofs.Blocks.{turn-asks, turn, ahead-below}
+use Rattle.movers.proofs.move_down.Statement.{statement}
+use Rattle.movers.proofs.move_down.Tie as tie
 
 abbrev Inv-loop : tie.InvT-loop
 Inv-loop s₀ from n to done₀ s done = Moved (λ k. part from k s₀) s₀ to n s done

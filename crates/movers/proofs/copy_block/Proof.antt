@@ -1,8 +1,8 @@
--- `bytes::copy_block` meets its contract: the array's front is the part, and it is laid.
+-- `movers::copy_block` meets its contract: the array's front is the part, and it is laid.
 use borrow.Author.Needs.{needs}
-use Rattle.bytes.proofs.Blocks.{through}
-use Rattle.bytes.proofs.copy_block.Statement.{statement}
-use Rattle.bytes.proofs.copy_block.Tie as tie
+use Rattle.movers.proofs.Blocks.{through}
+use Rattle.movers.proofs.copy_block.Statement.{statement}
+use Rattle.movers.proofs.copy_block.Tie as tie
 
 returns : tie.Need-returns
 returns c =

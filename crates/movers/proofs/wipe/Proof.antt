@@ -1,4 +1,4 @@
--- `bytes::wipe` meets its contract: after i turns, i zeros are laid.
+-- `movers::wipe` meets its contract: after i turns, i zeros are laid.
 use Prim.Native.Nat.{_-_}
 use mathlib.Core.Path.{refl}
 use borrow.Author.Needs.{needs}
@@ -6,9 +6,9 @@ use native.Mathlib.Omega.{arith}
 use lib.ListN.{length-set}
 use Rattle.rules.specs.Bytes.{zeros}
 use Rattle.rules.proofs.Laying.{zero-step}
-use Rattle.bytes.proofs.Moving.{Moved, moved-none, moved-more, moved-all}
-use Rattle.bytes.proofs.wipe.Statement.{statement}
-use Rattle.bytes.proofs.wipe.Tie as tie
+use Rattle.movers.proofs.Moving.{Moved, moved-none, moved-more, moved-all}
+use Rattle.movers.proofs.wipe.Statement.{statement}
+use Rattle.movers.proofs.wipe.Tie as tie
 
 abbrev Inv-loop : tie.InvT-loop
 Inv-loop s₀ start n i₀ s i = Moved zeros s₀ start n s i

@@ -10,7 +10,7 @@ use Rattle.rules.specs.Bytes.{Bytes, part, laid}
 use Rattle.rules.proofs.BigEndian.{part-laid}
 use Rattle.rules.proofs.Laying.{laid-next, length-part}
 use Rattle.rules.proofs.Lists.{laid-length}
-use Rattle.bytes.proofs.Moving.{Moved, moved-more}
+use Rattle.movers.proofs.Moving.{Moved, moved-more}
 
 -- what was laid at the array's front, and from there over t
 pub through : (x z block t after : Bytes) (at n start : ℕ) → at + n ≤ length x → block ≡ laid 0 (part at n x) z
