@@ -164,22 +164,37 @@ pub fn step_from(s: &[u8], at: usize, found: Found) -> Step
 }
 
 // What the whole segment has, from its first descriptor on: a segment of fewer than 40 bytes has none.
+// It keeps list and extension in variables of their own. Steps that hand on all that was found would be copied at each descriptor.
 pub fn walk_over(s: &[u8]) -> Walk
     ensures { λ r. ⌜ r ≡ walk (now (s .entry)) ⌝ }
 {
     let mut at: usize = 40;
-    let mut found = Found {
-        list: Spot::Absent,
-        extension: Spot::Absent,
-    };
+    let mut list = Spot::Absent;
+    let mut extension = Spot::Absent;
     loop {
-        let step = step_from(s, at, found);
-        match step {
-            Step::Stop(walk) => return walk,
-            Step::On(next, more) => {
-                at = next;
-                found = more;
+        let standing = standing_at(s, at);
+        match standing {
+            Here::End => {
+                return Walk::Whole(Found {
+                    list: list,
+                    extension: extension,
+                })
             }
+            Here::Fault(cause) => return Walk::Broken(cause, at),
+            Here::Entries(part) => match list {
+                Spot::At(_) => return Walk::Broken(Cause::Repeated, at),
+                Spot::Absent => {
+                    list = Spot::At(part);
+                    at = part.at + part.size;
+                }
+            },
+            Here::Extensions(part) => match extension {
+                Spot::At(_) => return Walk::Broken(Cause::Repeated, at),
+                Spot::Absent => {
+                    extension = Spot::At(part);
+                    at = part.at + part.size;
+                }
+            },
         }
     }
 }

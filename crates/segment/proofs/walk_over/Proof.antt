@@ -1,47 +1,80 @@
 -- `segment::walk_over` meets its contract: what is left of the walk from here on is the whole walk, and each step comes further.
+use borrow.Author.Needs.{needs}
 use Prim.Native.Nat.{_-_}
 use mathlib.Core.Path.{_≡_, refl, sym, _∙_}
-use borrow.Author.Needs.{needs}
 use native.Mathlib.Omega.{arith}
 use lib.ListN.{length}
 use Rattle.rules.specs.Segment.{walkFrom, walk}
-use Rattle.segment.proofs.Walking.{stops, goes-on, onwards}
+use Rattle.segment.proofs.Walking.{ends, faults, list-again, extension-again, list-on, extension-on, list-ends, extension-ends, stops, goes-on, onwards}
 use Rattle.segment.proofs.walk_over.Statement.{statement}
 use Rattle.segment.proofs.walk_over.Tie as tie
 
 abbrev Inv-loop : tie.InvT-loop
-Inv-loop s at₀ found₀ at found = walk s ≡ walkFrom (length s) s at found
+Inv-loop s at₀ list₀ extension₀ at list extension = walk s ≡ walkFrom (length s) s at (record { list = list; extension = extension })
 
 abbrev μ-loop : tie.MeasureT-loop
-μ-loop s at₀ found₀ at found = length s - at
+μ-loop s at₀ list₀ extension₀ at list extension = length s - at
 
 loop-holds : tie.Need-loop-holds Inv-loop μ-loop
 unfolding walk
 loop-holds c = refl
 
-step-from-requires : tie.Need-step-from-requires Inv-loop μ-loop
-step-from-requires c κs = search needs
+standing-at-requires : tie.Need-standing-at-requires Inv-loop μ-loop
+standing-at-requires c κs = search needs
 
-enum-known-step : tie.Need-enum-known-step Inv-loop μ-loop
-enum-known-step c = search needs
+enum-told : tie.Need-enum-told Inv-loop μ-loop
+enum-told c = search needs
 
 returns : tie.Need-returns Inv-loop μ-loop
-returns c =
-    let l = c .before .before .before .before in
-    sym (l .loop .inv ∙ stops _ _ _ _ (c .before .before .before .step-from .ensures) _ (c .before .step .given .1))
+returns c = sym (c .before .before .before .loop .inv ∙ stops _ _ (record { list = c .before .before .before .loop .list; extension = c .before .before .before .loop .extension }) _ (ends _ _ (record { list = c .before .before .before .loop .list; extension = c .before .before .before .loop .extension }) _ (c .before .before .standing-at .ensures) (c .enum-told .given .1)) _ refl)
 
-enum-known-step-2 : tie.Need-enum-known-step-2 Inv-loop μ-loop
-enum-known-step-2 c = search needs
+enum-known-standing : tie.Need-enum-known-standing Inv-loop μ-loop
+enum-known-standing c = search needs
+
+returns-2 : tie.Need-returns-2 Inv-loop μ-loop
+returns-2 c = sym (c .before .before .before .before .loop .inv ∙ stops _ _ (record { list = c .before .before .before .before .loop .list; extension = c .before .before .before .before .loop .extension }) _ (faults _ _ (record { list = c .before .before .before .before .loop .list; extension = c .before .before .before .before .loop .extension }) _ (c .before .before .before .standing-at .ensures) _ (c .before .standing .given .1)) _ refl)
+
+enum-known-standing-2 : tie.Need-enum-known-standing-2 Inv-loop μ-loop
+enum-known-standing-2 c = search needs
+
+enum-told-2 : tie.Need-enum-told-2 Inv-loop μ-loop
+enum-told-2 c = search needs
+
+returns-3 : tie.Need-returns-3 Inv-loop μ-loop
+returns-3 c = sym (c .before .before .before .before .before .before .loop .inv ∙ stops _ _ (record { list = c .before .before .before .before .before .before .loop .list; extension = c .before .before .before .before .before .before .loop .extension }) _ (list-again _ _ (record { list = c .before .before .before .before .before .before .loop .list; extension = c .before .before .before .before .before .before .loop .extension }) _ (c .before .before .before .before .before .standing-at .ensures) _ _ (c .before .before .before .standing2 .given .1) (c .enum-told2 .given .1)) _ refl)
+
+enum-told-3 : tie.Need-enum-told-3 Inv-loop μ-loop
+enum-told-3 c = search needs
+
+add-at : tie.Need-add-at Inv-loop μ-loop
+add-at c = let l = list-ends _ _ (record { list = c .before .before .before .before .before .before .before .loop .list; extension = c .before .before .before .before .before .before .before .loop .extension }) _ (c .before .before .before .before .before .before .standing-at .ensures) _ (c .before .before .before .before .standing2 .given .1) in omega arith
 
 loop-less : tie.Need-loop-less Inv-loop μ-loop
-loop-less c =
-    let o = onwards _ _ _ _ (c .before .before .before .step-from .ensures) _ _ (c .before .step2 .given .1) in
-    omega arith
+loop-less c = let o = onwards _ _ (record { list = c .before .before .before .before .before .before .before .loop .list; extension = c .before .before .before .before .before .before .before .loop .extension }) _ (list-on _ _ (record { list = c .before .before .before .before .before .before .before .loop .list; extension = c .before .before .before .before .before .before .before .loop .extension }) _ (c .before .before .before .before .before .before .standing-at .ensures) _ (c .before .before .before .before .standing2 .given .1) (c .before .enum-told3 .given .1)) _ _ refl in omega arith
 
 loop-again : tie.Need-loop-again Inv-loop μ-loop
-loop-again c =
-    c .before .before .before .before .loop .inv
-    ∙ goes-on _ _ _ _ (c .before .before .before .step-from .ensures) _ _ (c .before .step2 .given .1)
+loop-again c = c .before .before .before .before .before .before .before .loop .inv ∙ goes-on _ _ (record { list = c .before .before .before .before .before .before .before .loop .list; extension = c .before .before .before .before .before .before .before .loop .extension }) _ (list-on _ _ (record { list = c .before .before .before .before .before .before .before .loop .list; extension = c .before .before .before .before .before .before .before .loop .extension }) _ (c .before .before .before .before .before .before .standing-at .ensures) _ (c .before .before .before .before .standing2 .given .1) (c .before .enum-told3 .given .1)) _ _ refl
+
+enum-known-standing-3 : tie.Need-enum-known-standing-3 Inv-loop μ-loop
+enum-known-standing-3 c = search needs
+
+enum-told-4 : tie.Need-enum-told-4 Inv-loop μ-loop
+enum-told-4 c = search needs
+
+returns-4 : tie.Need-returns-4 Inv-loop μ-loop
+returns-4 c = sym (c .before .before .before .before .before .before .loop .inv ∙ stops _ _ (record { list = c .before .before .before .before .before .before .loop .list; extension = c .before .before .before .before .before .before .loop .extension }) _ (extension-again _ _ (record { list = c .before .before .before .before .before .before .loop .list; extension = c .before .before .before .before .before .before .loop .extension }) _ (c .before .before .before .before .before .standing-at .ensures) _ _ (c .before .before .before .standing3 .given .1) (c .enum-told4 .given .1)) _ refl)
+
+enum-told-5 : tie.Need-enum-told-5 Inv-loop μ-loop
+enum-told-5 c = search needs
+
+add-at-2 : tie.Need-add-at-2 Inv-loop μ-loop
+add-at-2 c = let l = extension-ends _ _ (record { list = c .before .before .before .before .before .before .before .loop .list; extension = c .before .before .before .before .before .before .before .loop .extension }) _ (c .before .before .before .before .before .before .standing-at .ensures) _ (c .before .before .before .before .standing3 .given .1) in omega arith
+
+loop-less-2 : tie.Need-loop-less-2 Inv-loop μ-loop
+loop-less-2 c = let o = onwards _ _ (record { list = c .before .before .before .before .before .before .before .loop .list; extension = c .before .before .before .before .before .before .before .loop .extension }) _ (extension-on _ _ (record { list = c .before .before .before .before .before .before .before .loop .list; extension = c .before .before .before .before .before .before .before .loop .extension }) _ (c .before .before .before .before .before .before .standing-at .ensures) _ (c .before .before .before .before .standing3 .given .1) (c .before .enum-told5 .given .1)) _ _ refl in omega arith
+
+loop-again-2 : tie.Need-loop-again-2 Inv-loop μ-loop
+loop-again-2 c = c .before .before .before .before .before .before .before .loop .inv ∙ goes-on _ _ (record { list = c .before .before .before .before .before .before .before .loop .list; extension = c .before .before .before .before .before .before .before .loop .extension }) _ (extension-on _ _ (record { list = c .before .before .before .before .before .before .before .loop .list; extension = c .before .before .before .before .before .before .before .loop .extension }) _ (c .before .before .before .before .before .before .standing-at .ensures) _ (c .before .before .before .before .standing3 .given .1) (c .before .enum-told5 .given .1)) _ _ refl
 
 pub walk-over-spec : {M : Type 1} → statement M
 walk-over-spec =
@@ -50,9 +83,22 @@ walk-over-spec =
     Inv-loop
     μ-loop
     loop-holds
-    step-from-requires
-    enum-known-step
+    standing-at-requires
+    enum-told
     returns
-    enum-known-step-2
+    enum-known-standing
+    returns-2
+    enum-known-standing-2
+    enum-told-2
+    returns-3
+    enum-told-3
+    add-at
     loop-less
-    loop-again)
+    loop-again
+    enum-known-standing-3
+    enum-told-4
+    returns-4
+    enum-told-5
+    add-at-2
+    loop-less-2
+    loop-again-2)
