@@ -46,6 +46,8 @@ use Rattle.object.proofs.punch.Reads as punch
 use Rattle.object.proofs.gather.Reads as gather
 use Rattle.object.proofs.gather_list.Reads as gather-list
 use Rattle.object.proofs.scatter_list.Reads as scatter-list
+use Rattle.layout.proofs.put_cdb.Reads as put-cdb
+use Rattle.layout.proofs.put_segment.Reads as put-segment
 use Rattle.writer.proofs.write_command.Reads as write-command
 use Rattle.numbers.proofs.number_of.Reads as number-of
 use Rattle.numbers.proofs.sense_key.Reads as sense-key
@@ -201,6 +203,13 @@ one-gather-list κs a r r′ s s′ e f = (e .0 ∙ sym (f .0), e .1 ∙ sym (f 
 
 one-scatter-list : Left scatter-list.Post (λ κs s. now (s .1 .1 .1 .1 .1 .0))
 one-scatter-list κs a r r′ s s′ e f = e ∙ sym f
+
+-- ---- `layout`: the bytes of a command as a host writes it
+one-put-cdb : Left put-cdb.Post (λ κs s. now (s .0))
+one-put-cdb κs a r r′ s s′ e f = e ∙ sym f
+
+one-put-segment : Left put-segment.Post (λ κs s. now (s .0))
+one-put-segment κs a r r′ s s′ e f = e ∙ sym f
 
 -- ---- `writer`: the host's writer
 one-write-command : (κs : _) (a : _) (r r′ : _) (s s′ : _)

@@ -1,5 +1,4 @@
 pub mod Verbs
 pub mod Sizes
 pub mod Planned
-pub mod Entries
 pub mod Whole

@@ -18,10 +18,10 @@ use Rattle.rules.proofs.Accepted.{Accepted, accepted}
 use Rattle.writer.specs.declared.Plan.{Plan}
 use Rattle.writer.specs.declared.Plan.the-variants.{Length, Refused}
 use Rattle.writer.specs.declared.Written.{Written}
-use Rattle.writer.specs.Parts.{cdbHead, cdbFields, cdbCapability, cdbParts, segmentHead, listPart, extensionPart, segmentParts, sizeFor}
+use Rattle.layout.specs.Parts.{cdbParts, segmentHead, listPart, extensionPart, segmentParts, sizeFor}
 use Rattle.writer.specs.Planning.{listTests, planned}
 use Rattle.writer.specs.Post.{Wrote}
-use Rattle.writer.proofs.Entries.{parts-length}
+use Rattle.layout.proofs.Pieces.{parts-length}
 
 -- ---- refusals
 
@@ -72,21 +72,16 @@ plan-length q t e = go (isSome (firstOf (listTests q))) e
     go true h = let z : _≡_ {A = ℕ} 0 1 = cc in absurd (omega arith)
     go false h = (refl, cc)
 
--- ---- the parts in one
+-- ---- what `layout` writes is what the book says
 
 segment-parts : (q : Request) → segmentFor q ≡ segmentParts (q .action) (q .listed) (q .offsets) (q .lengths) (q .capabilities)
 unfolding segmentFor segmentParts segmentHead listPart extensionPart extended entries
 segment-parts q = refl
 
-regroup : (h p o n s k z x y : Bytes) → h ++ p ++ o ++ n ++ s ++ k ++ z ++ x ++ y ≡ h ++ (p ++ o ++ n ++ s ++ k ++ z) ++ (x ++ y)
-regroup h p o n s k z x y = simp append-assoc
-
 cdb-parts : (q : Request)
     → cdbFor q ≡ cdbParts (q .action) (q .partition) (q .object) (lengthFor q) (q .start) (length (segmentFor q)) (q .capabilities)
-unfolding cdbFor cdbParts cdbHead cdbFields cdbCapability
-cdb-parts q =
-    regroup (cdbHead (q .action)) (toBe 8 (q .partition)) (toBe 8 (q .object)) (toBe 8 (lengthFor q)) (toBe 8 (q .start))
-    (toBe 4 (length (segmentFor q))) (zeros 28) (take 104 (q .capabilities)) (zeros 52)
+unfolding cdbFor cdbParts
+cdb-parts q = refl
 
 -- the segment's length as the writer makes it out
 abbrev pub need : Request → ℕ

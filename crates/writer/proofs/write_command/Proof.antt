@@ -10,17 +10,17 @@ use Rattle.writer.proofs.write_command.Statement.{statement}
 use Rattle.writer.proofs.write_command.Tie as tie
 
 -- the request, and what was found of it when LENGTH is known
-abbrev asked : tie.After-total → Request
+abbrev asked : tie.After-plan-of → Request
 asked c =
-    let a = c .before .before .before .before .before .before .before .before .before .before .before .before .args in
+    let a = c .before .before .before .before .before .before .before .before .before .before .args in
     request (a .action) (a .partition) (a .object) (a .start) (a .size) (a .listed) (a .offsets .now) (a .lengths .now) (a .capabilities .now)
 
-found : (c : tie.After-total) → Ready (asked c) (c .total .given .0 .0)
+found : (c : tie.After-total) → Ready (asked (c .before .before)) (c .total .given .0 .0)
 found c =
     let p = c .before .before in
     let s = p .before .before in
     let k = s .before .before in
-    ready {q = asked c} (k .known .ensures) (s .before .if1 .left) (s .sized .ensures) (p .before .if2 .left) (p .plan-of .ensures _ _ _)
+    ready {q = asked p} (k .known .ensures) (s .before .if1 .left) (s .sized .ensures) (p .before .if2 .left) (p .plan-of .ensures _ _ _)
     (c .total .given .1)
 
 known-requires : tie.Need-known-requires
@@ -60,7 +60,7 @@ returns-3 c =
     let p = c .before .before .before in
     let s = p .before .before in
     let k = s .before .before in
-    unplanned _ _ _ (k .known .ensures) (s .before .if1 .left) (s .sized .ensures) (p .before .if2 .left) (p .plan-of .ensures _ _ _)
+    unplanned (asked p) _ _ (k .known .ensures) (s .before .if1 .left) (s .sized .ensures) (p .before .if2 .left) (p .plan-of .ensures _ _ _)
     (c .before .enum-told .given .1) (c .answer3 .ensures)
 
 segment-size-requires : tie.Need-segment-size-requires
@@ -84,26 +84,26 @@ returns-5 c =
     let z = c .before .before .before in
     short-segment _ _ _ (found (z .before .before)) (z .segment-size .ensures .0) (c .before .if4 .taken) (c .answer5 .ensures)
 
-cast-write-cdb : tie.Need-cast-write-cdb
-cast-write-cdb c =
+cast-put-cdb : tie.Need-cast-put-cdb
+cast-put-cdb c =
     let t = c .before .before .before .before .before in
     record { fits = fits-field _ (found t .known) }
 
-cast-write-cdb-2 : tie.Need-cast-write-cdb-2
-cast-write-cdb-2 c = search needs
+cast-put-cdb-2 : tie.Need-cast-put-cdb-2
+cast-put-cdb-2 c = search needs
 
-write-cdb-requires : tie.Need-write-cdb-requires
-write-cdb-requires c κs =
+put-cdb-requires : tie.Need-put-cdb-requires
+put-cdb-requires c κs =
     let t = c .before .before .before .before .before in
     (c .before .before .if3 .left, one-given (acceptable (found t)))
 
-cast-write-segment : tie.Need-cast-write-segment
-cast-write-segment c =
+cast-put-segment : tie.Need-cast-put-segment
+cast-put-segment c =
     let t = c .before .before .before .before .before .before .before .before .before in
     record { fits = fits-field _ (found t .known) }
 
-write-segment-requires : tie.Need-write-segment-requires
-write-segment-requires c κs =
+put-segment-requires : tie.Need-put-segment-requires
+put-segment-requires c κs =
     let e = c .before .before .before .before .before in
     let z = e .before .before in
     let k = found (z .before .before) in
@@ -125,7 +125,7 @@ returns-6 c =
     let e = w .before .before in
     let z = e .before .before in
     carried-out _ _ _ (found (z .before .before)) (z .segment-size .ensures .0) (e .before .if3 .left) (e .if4 .left)
-    (w .write-cdb .ensures) (g .write-segment .ensures) (c .answer6 .ensures)
+    (w .put-cdb .ensures) (g .put-segment .ensures) (c .answer6 .ensures)
 
 pub write-command-spec : {M : Type 1} → statement M
 write-command-spec =
@@ -147,11 +147,11 @@ write-command-spec =
     returns-4
     answer-requires-5
     returns-5
-    cast-write-cdb
-    cast-write-cdb-2
-    write-cdb-requires
-    cast-write-segment
-    write-segment-requires
+    cast-put-cdb
+    cast-put-cdb-2
+    put-cdb-requires
+    cast-put-segment
+    put-segment-requires
     answer-requires-6
     same-length
     same-length-2

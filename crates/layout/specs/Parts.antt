@@ -1,4 +1,4 @@
--- The pieces that a CDB and a segment are written in, one behind the other.
+-- The bytes of a CDB, and the pieces that a segment is written in, one behind the other.
 use Prim.Native.Nat.{ℕ, _+_, _*_, _-_}
 use mathlib.Core.Bool.{Bool, cond, _||_}
 use mathlib.Core.List.{List, [], _∷_, _++_}
@@ -7,20 +7,21 @@ use lib.Dec.{ltb}
 use Rattle.rules.specs.Bytes.{Bytes, zeros, toBe}
 use Rattle.rules.specs.Writer.{paired, spelled, descriptor}
 
--- bytes 0 to 15 of the CDB
-unfoldable pub cdbHead : (action : ℕ) → Bytes
-cdbHead a = (0x7F ∷ []) ++ zeros 6 ++ (228 ∷ []) ++ toBe 2 a ++ zeros 6
-
--- bytes 16 to 79
-unfoldable pub cdbFields : (partition object size start continuation : ℕ) → Bytes
-cdbFields p o n s k = toBe 8 p ++ toBe 8 o ++ toBe 8 n ++ toBe 8 s ++ toBe 4 k ++ zeros 28
-
--- bytes 80 to 235
-unfoldable pub cdbCapability : (capabilities : Bytes) → Bytes
-cdbCapability k = take 104 k ++ zeros 52
-
 unfoldable pub cdbParts : (action partition object size start continuation : ℕ) → (capabilities : Bytes) → Bytes
-cdbParts a p o n s k cs = cdbHead a ++ cdbFields p o n s k ++ cdbCapability cs
+cdbParts a p o n s k cs =
+    (0x7F ∷ [])
+    ++ zeros 6
+    ++ (228 ∷ [])
+    ++ toBe 2 a
+    ++ zeros 6
+    ++ toBe 8 p
+    ++ toBe 8 o
+    ++ toBe 8 n
+    ++ toBe 8 s
+    ++ toBe 4 k
+    ++ zeros 28
+    ++ take 104 cs
+    ++ zeros 52
 
 -- bytes 0 to 39 of a segment
 unfoldable pub segmentHead : (action : ℕ) → Bytes
