@@ -1,8 +1,8 @@
 -- Ranges that share a position: one against those behind it, and each against those behind it.
 use Prim.Native.Nat.{ℕ, _+_, _-_, _≤_, _<_}
-use mathlib.Core.Path.{_≡_, refl, sym}
-use mathlib.Core.Bool.{Bool, true, false, not, and-false}
-use mathlib.Core.List.{List}
+use mathlib.Core.Path.{_≡_, refl, sym, _∙_}
+use mathlib.Core.Bool.{Bool, true, false, not, _||_, and-false}
+use mathlib.Core.List.{List, [], _∷_}
 use native.Mathlib.Omega.{arith}
 use native.Mathlib.Numerals.{add-one}
 use lib.Dec.{eqb, ltb}
@@ -14,18 +14,6 @@ use Rattle.rules.specs.Ranges.{end, meet, overlapping}
 use Rattle.rules.specs.Writer.{paired}
 use Rattle.rules.proofs.Paired.{pairAt, next-pair, no-pair}
 
--- a start below another's is below its end
-pub below-start : (g h : Range) → g .start < h .start → true ≡ ltb (g .start) (end h)
-below-start g h l = sym (lt-ltb (g .start) (end h) (omega arith))
-
--- by differences: an end is never made
-pub below-end : (g h : Range) → h .start ≤ g .start → ltb (g .start - h .start) (h .size) ≡ ltb (g .start) (end h)
-below-end g h l = go (ltb (g .start) (end h)) refl
-  where
-    go : (b : Bool) → ltb (g .start) (end h) ≡ b → ltb (g .start - h .start) (h .size) ≡ b
-    go true e = lt-ltb (g .start - h .start) (h .size) (omega (arith, ltb-true (g .start) (end h) e))
-    go false e = le-ltb (g .start - h .start) (h .size) (omega (arith, ltb-false (g .start) (end h) e))
-
 pub empty-left : (g h : Range) → g .size ≡ 0 → false ≡ meet g h
 unfolding meet
 empty-left g h e = rw (eq-eqb (g .size) 0 e)
@@ -34,46 +22,62 @@ pub empty-right : (g h : Range) → h .size ≡ 0 → false ≡ meet g h
 unfolding meet
 empty-right g h e = rw (eq-eqb (h .size) 0 e, and-false (not (eqb (g .size) 0)))
 
--- two that aren't empty: each starts below the other's end
-pub meet-both : (g h : Range) (a b : Bool) → (g .size ≡ 0 → ⊥) → (h .size ≡ 0 → ⊥)
-    → a ≡ ltb (g .start) (end h) → a ≡ true → b ≡ ltb (h .start) (end g) → b ≡ meet g h
-unfolding meet
-meet-both g h a b y z e t f = rw (ne-eqb (g .size) 0 y, ne-eqb (h .size) 0 z, ← e, t, ← f)
+-- The distance of the starts decides, unless the range that starts later is empty: an end is never made.
+module _ (near far : Range) (l : near .start ≤ far .start) (n : far .size ≡ 0 → ⊥) where
+  distance : (b : Bool) → ltb (far .start - near .start) (near .size) ≡ b → (b ≡ meet near far) × (b ≡ meet far near)
+  unfolding meet
+  distance true e =
+      let k : far .start - near .start < near .size = ltb-true _ _ e in
+      let m : near .size ≡ 0 → ⊥ = λ (z : near .size ≡ 0). omega arith in
+      let y : ltb (near .start) (end far) ≡ true = lt-ltb (near .start) (end far) (omega arith) in
+      let z : ltb (far .start) (end near) ≡ true = lt-ltb (far .start) (end near) (omega arith) in
+      (rw (ne-eqb _ _ m, ne-eqb _ _ n, y, z), rw (ne-eqb _ _ m, ne-eqb _ _ n, z, y))
+  distance false e =
+      let z : ltb (far .start) (end near) ≡ false = le-ltb (far .start) (end near) (omega (arith, ltb-false (far .start - near .start) (near .size) e)) in
+      (simp (z, and-false), simp (z, and-false))
 
-pub meet-neither : (g h : Range) (a : Bool) → (g .size ≡ 0 → ⊥) → (h .size ≡ 0 → ⊥) → a ≡ ltb (g .start) (end h) → a ≡ false → false ≡ meet g h
-unfolding meet
-meet-neither g h a y z e t = rw (ne-eqb (g .size) 0 y, ne-eqb (h .size) 0 z, ← e, t)
+  pub meets-later : ltb (far .start - near .start) (near .size) ≡ meet near far
+  meets-later = distance _ refl .0
 
--- `b` is the answer of the function that compares
-module _ (os ns : List ℕ) (n : ℕ) where
-  -- a range that doesn't meet the one at i is left to those behind it
-  pub passes-by : (g : Range) (i : ℕ) {b : Bool} → i < n → n ≤ length os → n ≤ length ns → b ≡ meet g (pairAt os ns i) → b ≡ false
-      → any (meet g) (drop i (paired (take n os) (take n ns))) ≡ any (meet g) (drop (i + 1) (paired (take n os) (take n ns)))
-  unfolding any
-  passes-by g i l h k e f = rw (add-one i, next-pair n i os ns l h k, ← e, f)
+  pub meets-earlier : ltb (far .start - near .start) (near .size) ≡ meet far near
+  meets-earlier = distance _ refl .1
 
-  pub meets-here : (g : Range) (i : ℕ) {b : Bool} → i < n → n ≤ length os → n ≤ length ns → b ≡ meet g (pairAt os ns i) → b ≡ true
-      → any (meet g) (drop i (paired (take n os) (take n ns))) ≡ true
-  unfolding any
-  meets-here g i l h k e f = rw (next-pair n i os ns l h k, ← e, f)
+-- A question of a list that is asked of each range, beside those behind it: yes where one of them says so.
+pub record Asks (ask : List Range → Bool) (one : Range → List Range → Bool) : Type 0 where
+  pub none : ask [] ≡ false
+  pub more : (g : Range) (gs : List Range) → ask (g ∷ gs) ≡ (one g gs || ask gs)
 
-  pub meets-none : (g : Range) (i : ℕ) → i ≤ n → n ≤ i → any (meet g) (drop i (paired (take n os) (take n ns))) ≡ false
-  unfolding any
-  meets-none g i l m = let e : i ≡ n = omega arith in rw (e, no-pair n os ns)
+-- whether g meets one of them, and whether some two of them meet
+pub asks-later : (g : Range) → Asks (any (meet g)) (λ (h : Range) (gs : List Range). meet g h)
+unfolding any
+asks-later g = record { none = refl; more = λ (h : Range) (gs : List Range). refl }
 
-  -- and so from range to range
-  pub apart-here : (i : ℕ) {b : Bool} → i < n → n ≤ length os → n ≤ length ns
-      → b ≡ any (meet (pairAt os ns i)) (drop (i + 1) (paired (take n os) (take n ns))) → b ≡ false
-      → overlapping (drop i (paired (take n os) (take n ns))) ≡ overlapping (drop (i + 1) (paired (take n os) (take n ns)))
-  unfolding overlapping
-  apart-here i l h k e f = let x = rw (add-one i) at e in rw (next-pair n i os ns l h k, ← x, f, add-one i)
+pub asks-all : Asks overlapping (λ (g : Range) (gs : List Range). any (meet g) gs)
+unfolding overlapping
+asks-all = record { none = refl; more = λ (g : Range) (gs : List Range). refl }
 
-  pub overlaps-here : (i : ℕ) {b : Bool} → i < n → n ≤ length os → n ≤ length ns
-      → b ≡ any (meet (pairAt os ns i)) (drop (i + 1) (paired (take n os) (take n ns))) → b ≡ true
-      → overlapping (drop i (paired (take n os) (take n ns))) ≡ true
-  unfolding overlapping
-  overlaps-here i l h k e f = let x = rw (add-one i) at e in rw (next-pair n i os ns l h k, ← x, f)
+-- The loop over the first n of two lists: what is left of the question at i is the whole of it. `b` is the answer at i.
+abbrev pub pairs : (os ns : List ℕ) (n : ℕ) → List Range
+pairs os ns n = paired (take n os) (take n ns)
 
-  pub overlaps-none : (i : ℕ) → i ≤ n → n ≤ i → overlapping (drop i (paired (take n os) (take n ns))) ≡ false
-  unfolding overlapping
-  overlaps-none i l m = let e : i ≡ n = omega arith in rw (e, no-pair n os ns)
+pub record Left (ask : List Range → Bool) (os ns : List ℕ) (n from i : ℕ) : Type 0 where
+  pub within : i ≤ n
+  pub rest : ask (drop from (pairs os ns n)) ≡ ask (drop i (pairs os ns n))
+
+module _ {ask : List Range → Bool} {one : Range → List Range → Bool} (asks : Asks ask one) (os ns : List ℕ) (n from : ℕ) where
+  pub left-all : from ≤ n → Left ask os ns n from from
+  left-all l = record { within = l; rest = refl }
+
+  module _ (i : ℕ) (k : Left ask os ns n from i) where
+    module _ (l : i < n) (ho : n ≤ length os) (hn : n ≤ length ns) {g : Range} (q : g ≡ pairAt os ns i) {b : Bool} (e : b ≡ one g (drop (i + 1) (pairs os ns n))) where
+      here : ask (drop from (pairs os ns n)) ≡ (b || ask (drop (i + 1) (pairs os ns n)))
+      here = k .rest ∙ rw (next-pair n i os ns l ho hn, asks .more, ← add-one i, ← q, ← e)
+
+      pub left-hit : b ≡ true → true ≡ ask (drop from (pairs os ns n))
+      left-hit t = sym (here ∙ rw t)
+
+      pub left-on : b ≡ false → Left ask os ns n from (i + 1)
+      left-on f = record { within = omega arith; rest = here ∙ rw f }
+
+    pub left-none : n ≤ i → false ≡ ask (drop from (pairs os ns n))
+    left-none m = let e : i ≡ n = omega (arith, k .within) in sym (k .rest ∙ rw (e, no-pair n os ns, asks .none))

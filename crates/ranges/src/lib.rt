@@ -3,11 +3,10 @@
 use rules::Range;
 ghost use mathlib.Core.Path.{_≡_};
 ghost use mathlib.Core.List.{List};
-ghost use Prim.Native.Nat.{ℕ, _≤_};
-ghost use lib.ListN.{length, take, drop};
-ghost use lib.Dec.{ltb};
+ghost use Prim.Native.Nat.{ℕ, _≤_, _<_};
+ghost use lib.ListN.{length, take, drop, getD};
 ghost use Rattle.rules.specs.Bytes.{any};
-ghost use Rattle.rules.specs.Ranges.{end, total, meet, overlapping};
+ghost use Rattle.rules.specs.Ranges.{total, meet, overlapping};
 ghost use Rattle.rules.specs.Writer.{paired};
 ghost use Rattle.ranges.specs.Sums.{summed};
 
@@ -37,29 +36,30 @@ pub fn sum_of(lengths: &[u64], n: usize) -> Sum
     Sum::Fits(sum)
 }
 
-// The end can pass 2^64, so the starts' difference is compared with the size.
-fn starts_below_end(g: Range, h: Range) -> bool
-    ensures { λ r. ⌜ r ≡ ltb (g .start) (end h) ⌝ }
+// An end can pass 2^64, so the distance of the starts is compared with the size of the range that starts first.
+fn share(g: Range, h: Range) -> bool
+    ensures { λ r. ⌜ r ≡ meet g h ⌝ }
 {
-    if g.start < h.start {
-        return true;
+    if g.start <= h.start {
+        if h.size == 0 {
+            return false;
+        }
+        return h.start - g.start < g.size;
+    }
+    if g.size == 0 {
+        return false;
     }
     g.start - h.start < h.size
 }
 
-fn share(g: Range, h: Range) -> bool
-    ensures { λ r. ⌜ r ≡ meet g h ⌝ }
+fn range_at(offsets: &[u64], lengths: &[u64], i: usize) -> Range
+    requires { ⌜ (i < length (now offsets)) × (i < length (now lengths)) ⌝ }
+    ensures { λ r. ⌜ r ≡ record { start = getD (now (offsets .entry)) i 0; size = getD (now (lengths .entry)) i 0 } ⌝ }
 {
-    if g.size == 0 {
-        return false;
+    Range {
+        start: offsets[i],
+        size: lengths[i],
     }
-    if h.size == 0 {
-        return false;
-    }
-    if starts_below_end(g, h) {
-        return starts_below_end(h, g);
-    }
-    false
 }
 
 // Whether g shares a position with one of the ranges from `from` on.
@@ -69,10 +69,7 @@ fn shares_later(g: Range, offsets: &[u64], lengths: &[u64], n: usize, from: usiz
 {
     let mut i = from;
     while i < n {
-        let h = Range {
-            start: offsets[i],
-            size: lengths[i],
-        };
+        let h = range_at(offsets, lengths, i);
         if share(g, h) {
             return true;
         }
@@ -88,10 +85,7 @@ pub fn overlap(offsets: &[u64], lengths: &[u64], n: usize) -> bool
 {
     let mut i = 0;
     while i < n {
-        let g = Range {
-            start: offsets[i],
-            size: lengths[i],
-        };
+        let g = range_at(offsets, lengths, i);
         if shares_later(g, offsets, lengths, n, i + 1) {
             return true;
         }

@@ -1,35 +1,22 @@
 -- `ranges::overlap` meets its contract: none of the ranges passed shares a position with one behind it.
-use Prim.Native.Nat.{_≤_, _-_}
-use mathlib.Core.Path.{_≡_, refl, sym, _∙_}
+use Prim.Native.Nat.{_-_}
 use native.Mathlib.Omega.{arith}
-use lib.ListN.{take, drop}
 use Rattle.rules.specs.Ranges.{overlapping}
-use Rattle.rules.specs.Writer.{paired}
-use Rattle.ranges.proofs.Meetings.{apart-here, overlaps-here, overlaps-none}
+use Rattle.ranges.proofs.Meetings.{asks-all, Left, left-all, left-hit, left-on, left-none}
 use Rattle.ranges.proofs.overlap.Statement.{statement}
 use Rattle.ranges.proofs.overlap.Tie as tie
 
 abbrev Inv-loop : tie.InvT-loop
-Inv-loop offsets lengths n i₀ i =
-    (i ≤ n) × (overlapping (paired (take n offsets) (take n lengths)) ≡ overlapping (drop i (paired (take n offsets) (take n lengths))))
+Inv-loop offsets lengths n i₀ i = Left overlapping offsets lengths n 0 i
 
 abbrev μ-loop : tie.MeasureT-loop
 μ-loop offsets lengths n i₀ i = n - i
 
 loop-holds : tie.Need-loop-holds Inv-loop μ-loop
-loop-holds c = (omega arith, refl)
+loop-holds c = left-all asks-all _ _ _ _ (omega arith)
 
-mul-t7 : tie.Need-mul-t7 Inv-loop μ-loop
-mul-t7 c = omega arith
-
-shared-slice-read-t9 : tie.Need-shared-slice-read-t9 Inv-loop μ-loop
-shared-slice-read-t9 c = omega arith
-
-mul-t10 : tie.Need-mul-t10 Inv-loop μ-loop
-mul-t10 c = omega arith
-
-shared-slice-read-t12 : tie.Need-shared-slice-read-t12 Inv-loop μ-loop
-shared-slice-read-t12 c = omega arith
+range-at-requires : tie.Need-range-at-requires Inv-loop μ-loop
+range-at-requires c κs = omega arith
 
 add-shares-later : tie.Need-add-shares-later Inv-loop μ-loop
 add-shares-later c = omega arith
@@ -39,10 +26,10 @@ shares-later-requires c κs = omega arith
 
 returns : tie.Need-returns Inv-loop μ-loop
 returns c =
-    let t = c .before .before .before .before in
+    let r = c .before .before in
+    let t = r .before in
     let s = t .before .before .before .before in
-    let here = overlaps-here _ _ _ _ (t .loop-test .taken) (s .pre .0) (s .pre .1) (c .before .shares-later .ensures) (c .if1 .taken) in
-    sym (t .before .loop .inv .1 ∙ here)
+    left-hit asks-all _ _ _ _ _ (t .before .loop .inv) (t .loop-test .taken) (s .pre .0) (s .pre .1) (r .range-at .ensures) (c .before .shares-later .ensures) (c .if1 .taken)
 
 add-i : tie.Need-add-i Inv-loop μ-loop
 add-i c = omega arith
@@ -52,13 +39,13 @@ loop-less c = omega arith
 
 loop-again : tie.Need-loop-again Inv-loop μ-loop
 loop-again c =
-    let t = c .before .before .before .before in
+    let r = c .before .before in
+    let t = r .before in
     let s = t .before .before .before .before in
-    let here = apart-here _ _ _ _ (t .loop-test .taken) (s .pre .0) (s .pre .1) (c .before .shares-later .ensures) (c .if1 .left) in
-    (omega arith, t .before .loop .inv .1 ∙ here)
+    left-on asks-all _ _ _ _ _ (t .before .loop .inv) (t .loop-test .taken) (s .pre .0) (s .pre .1) (r .range-at .ensures) (c .before .shares-later .ensures) (c .if1 .left)
 
 returns-2 : tie.Need-returns-2 Inv-loop μ-loop
-returns-2 c = sym (c .before .loop .inv .1 ∙ overlaps-none _ _ _ _ (c .before .loop .inv .0) (c .loop-test .left))
+returns-2 c = left-none asks-all _ _ _ _ _ (c .before .loop .inv) (c .loop-test .left)
 
 pub overlap-spec : {M : Type 1} → statement M
 overlap-spec =
@@ -67,10 +54,7 @@ overlap-spec =
     Inv-loop
     μ-loop
     loop-holds
-    mul-t7
-    shared-slice-read-t9
-    mul-t10
-    shared-slice-read-t12
+    range-at-requires
     add-shares-later
     shares-later-requires
     returns
