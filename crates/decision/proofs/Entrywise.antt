@@ -1,20 +1,58 @@
 -- The loops over a list's entries: what is left of a question from an entry on.
-use Prim.Native.Nat.{ℕ, _+_, _-_, _*_, _≤_, _<_, max}
+use Prim.Native.Nat.{ℕ, zero, suc, _+_, _-_, _*_, _^_, _≤_, _<_, max}
 use mathlib.Core.Path.{_≡_, refl, sym, _∙_}
 use mathlib.Core.Bool.{Bool, true, false, cond, _||_, or-true, and-false}
 use native.Mathlib.Omega.{arith}
+use native.Mathlib.Nat.{zero-add, add-zero}
 use lib.Dec.{ltb}
 use lib.ListN.{length}
 use borrow.Author.Tests.{lt-ltb, le-ltb, eq-eqb, ne-eqb, ltb-true, ltb-false}
 use Rattle.rules.specs.declared.Range.{Range}
 use Rattle.rules.specs.Bytes.{Bytes, any}
-use Rattle.rules.specs.Ranges.{end, reach}
+use Rattle.rules.specs.Ranges.{end, total, overlapping, reach}
 use Rattle.rules.specs.Segment.{entryAt, entriesFrom}
 use Rattle.rules.proofs.Entries.{first-entry, no-entry}
 use Rattle.rules.proofs.Positions.{reach-old}
+use Rattle.ranges.specs.declared.Sum.the-variants.{Fits, Over}
+use Rattle.ranges.specs.Sums.{summed}
 use Rattle.decision.specs.declared.Reach.{Reach}
 use Rattle.decision.specs.declared.Reach.the-variants.{Within, Beyond}
 use Rattle.decision.specs.Decisions.{beyondIn, within, lifted, roomFor}
+
+-- ---- row 10: the sum
+module _ (s : Bytes) (start n : ℕ) where
+  pub record Summing (from left sum : ℕ) : Type 0 where
+    pub rest : total (entriesFrom n s start) ≡ sum + total (entriesFrom left s from)
+    pub fits : sum < 2 ^ 64
+    pub inside : from + 16 * left ≤ length s
+
+  pub summing-begun : start + 16 * n ≤ length s → Summing start n 0
+  summing-begun l = record { rest = sym (zero-add _); fits = omega arith; inside = l }
+
+  module _ (from left sum : ℕ) (i : Summing from left sum) (more : 0 < left) (g : Range) (k : g ≡ entryAt s from) where
+    split-sum : total (entriesFrom n s start) ≡ sum + (g .size + total (entriesFrom (left - 1) s (from + 16)))
+    unfolding total
+    split-sum = i .rest ∙ rw (first-entry s left from more, k)
+
+    pub summing-over : 2 ^ 64 ≤ sum + g .size → Over ≡ summed (total (entriesFrom n s start))
+    unfolding summed
+    summing-over h = let l : 2 ^ 64 ≤ total (entriesFrom n s start) = omega (arith, split-sum) in rw (le-ltb _ _ l)
+
+    pub summing-on : sum + g .size < 2 ^ 64 → Summing (from + 16) (left - 1) (sum + g .size)
+    summing-on h = record { rest = omega (arith, split-sum); fits = h; inside = omega (arith, i .inside) }
+
+  pub summing-done : (from left sum : ℕ) → Summing from left sum → left ≤ 0 → Fits sum ≡ summed (total (entriesFrom n s start))
+  unfolding summed total
+  summing-done from left sum i h =
+      let e : total (entriesFrom n s start) ≡ sum = i .rest ∙ rw (no-entry s left from h) (add-zero sum) in
+      rw (e, lt-ltb _ _ (i .fits))
+
+-- two that share a position are two
+pub few-apart : (s : Bytes) (n start : ℕ) → n < 2 → false ≡ overlapping (entriesFrom n s start)
+unfolding overlapping any entriesFrom
+few-apart s zero start h = refl
+few-apart s (suc zero) start h = refl
+few-apart s (suc (suc n)) start h = absurd (omega arith)
 
 -- ---- row 12
 module _ (s : Bytes) (start n logical : ℕ) where

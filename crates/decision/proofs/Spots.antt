@@ -5,8 +5,6 @@ use mathlib.Core.Bool.{Bool, true, false, cond, not, or-false}
 use mathlib.Core.List.{List, [], _∷_}
 use native.Mathlib.Omega.{arith}
 use lib.Dec.{ltb}
-use lib.ListN.{length, take}
-use lib.Seq.{length-take-le}
 use borrow.Author.Tests.{eq-eqb, ne-eqb, ltb-false, not-true, not-false}
 use Rattle.rules.specs.declared.Part.{Part}
 use Rattle.rules.specs.declared.Range.{Range}
@@ -92,6 +90,3 @@ module _ (gs : List Range) (size : ℕ) (apart : Bool) (r : Sum) (e : r ≡ summ
     pub sums-apart : k ≡ size → not apart ≡ false → (t : Bool) → t ≡ overlapping gs → t ≡ faultIn gs size apart
     unfolding faultIn
     sums-apart z a t o = rw (eq-eqb _ _ (is-sum ∙ z), not-false apart a) o
-
-pub taken-length : (n : ℕ) (l : List ℕ) → n ≤ length l → length (take n l) ≡ n
-taken-length n l h = length-take-le n l h

@@ -18,6 +18,7 @@ ghost use Rattle.rules.specs.Bytes.{any};
 ghost use Rattle.rules.specs.Ranges.{total, overlapping, reach};
 ghost use Rattle.rules.specs.Segment.{entriesFrom};
 ghost use Rattle.rules.specs.Writer.{paired};
+ghost use Rattle.ranges.specs.Sums.{summed};
 ghost use Rattle.header.specs.Reading.{command};
 ghost use Rattle.rules.specs.Command.{isWrite};
 ghost use Rattle.rules.specs.Reading.{present};
@@ -52,12 +53,47 @@ fn load(s: &[u8], at: usize, n: usize, offsets: &mut [u64], lengths: &mut [u64])
     }
 }
 
-// Whether the first n lengths don't sum to `size`, or two of the nonempty ranges share a position where that is asked.
-fn is_fault(offsets: &[u64], lengths: &[u64], n: usize, size: u64, apart: bool) -> bool
-    requires { ⌜ (n ≤ length (now offsets)) × (n ≤ length (now lengths)) ⌝ }
-    ensures { λ r. ⌜ r ≡ faultIn (paired (take n (now (offsets .entry))) (take n (now (lengths .entry)))) size apart ⌝ }
+// The sum of the entries' lengths, taken from the entries where they stand.
+fn sum_in(s: &[u8], at: usize, n: usize) -> Sum
+    requires { ⌜ at + 16 * n ≤ length (now s) ⌝ }
+    ensures { λ r. ⌜ r ≡ summed (total (entriesFrom n (now (s .entry)) at)) ⌝ }
 {
-    let sum = ranges::sum_of(lengths, n);
+    let mut from = at;
+    let mut left = n;
+    let mut sum: u64 = 0;
+    while 0 < left {
+        let g = segment::entry_at(s, from);
+        if 0xFFFF_FFFF_FFFF_FFFF - sum < g.size {
+            return Sum::Over;
+        }
+        sum += g.size;
+        from = from + 16;
+        left -= 1;
+    }
+    Sum::Fits(sum)
+}
+
+// Whether two of the nonempty entries share a position. Fewer than two cannot, and are not taken apart.
+fn overlap_in(s: &[u8], at: usize, n: usize) -> bool
+    requires { ⌜ (at + 16 * n ≤ length (now s)) × (n ≤ 64) ⌝ }
+    ensures { λ r. ⌜ r ≡ overlapping (entriesFrom n (now (s .entry)) at) ⌝ }
+{
+    if n < 2 {
+        return false;
+    }
+    let mut offsets = [0u64; 64];
+    let mut lengths = [0u64; 64];
+    load(s, at, n, &mut offsets, &mut lengths);
+    ranges::overlap(&offsets, &lengths, n)
+}
+
+// Row 10, of a list: the lengths don't sum to `size`, or two entries share a position where they must not.
+fn is_list_fault(s: &[u8], part: Part, size: u64, apart: bool) -> bool
+    requires { ⌜ Lists (now s) part ⌝ }
+    ensures { λ r. ⌜ r ≡ faultIn (entriesFrom (part .size / 16) (now (s .entry)) (part .at)) size apart ⌝ }
+{
+    let n = part.size / 16;
+    let sum = sum_in(s, part.at, n);
     match sum {
         Sum::Over => true,
         Sum::Fits(total) => {
@@ -67,21 +103,9 @@ fn is_fault(offsets: &[u64], lengths: &[u64], n: usize, size: u64, apart: bool) 
             if !apart {
                 return false;
             }
-            ranges::overlap(offsets, lengths, n)
+            overlap_in(s, part.at, n)
         }
     }
-}
-
-// Row 10, of a list.
-fn is_list_fault(s: &[u8], part: Part, size: u64, apart: bool) -> bool
-    requires { ⌜ Lists (now s) part ⌝ }
-    ensures { λ r. ⌜ r ≡ faultIn (entriesFrom (part .size / 16) (now (s .entry)) (part .at)) size apart ⌝ }
-{
-    let n = part.size / 16;
-    let mut offsets = [0u64; 64];
-    let mut lengths = [0u64; 64];
-    load(s, part.at, n, &mut offsets, &mut lengths);
-    is_fault(&offsets, &lengths, n, size, apart)
 }
 
 // Row 12, of a list: whether an entry starts above the logical length.

@@ -1,40 +1,46 @@
-use mathlib.Core.Path.{ap, _∙_}
-use mathlib.Core.List.{List}
-use Rattle.rules.specs.declared.Range.{Range}
-use Rattle.decision.specs.Decisions.{faultIn}
+use native.Mathlib.Omega.{arith}
+use Rattle.decision.proofs.Spots.{sums-over, sums-else, sums-right, sums-apart}
 use borrow.Author.Needs.{needs}
 use Rattle.decision.proofs.is_list_fault.Statement.{statement}
 use Rattle.decision.proofs.is_list_fault.Tie as tie
 
-slice-aggregate-load : tie.Need-slice-aggregate-load
-slice-aggregate-load c = search needs
+sum-in-requires : tie.Need-sum-in-requires
+sum-in-requires c κs = search needs
 
-slice-aggregate-load-2 : tie.Need-slice-aggregate-load-2
-slice-aggregate-load-2 c = search needs
+enum-told : tie.Need-enum-told
+enum-told c = search needs
 
-load-requires : tie.Need-load-requires
-load-requires c κs = search needs
-
-slice-aggregate-is-fault : tie.Need-slice-aggregate-is-fault
-slice-aggregate-is-fault c = search needs
-
-slice-aggregate-is-fault-2 : tie.Need-slice-aggregate-is-fault-2
-slice-aggregate-is-fault-2 c = search needs
-
-is-fault-requires : tie.Need-is-fault-requires
-is-fault-requires c κs = search needs
+enum-known-sum : tie.Need-enum-known-sum
+enum-known-sum c = search needs
 
 returns : tie.Need-returns
-returns c = let a = c .before .before .before .before .before .before .before .before .before .before .args in c .is-fault .ensures ∙ ap (λ (gs : List Range). faultIn gs (a .size) (a .apart)) (c .before .before .before .before .before .load .ensures)
+returns c = let k = c .before .before in sums-else _ _ _ _ (k .before .before .sum-in .ensures) _ (k .sum .given .1) (c .if1 .taken)
+
+returns-2 : tie.Need-returns-2
+returns-2 c = let k = c .before .before .before in sums-right _ _ _ _ (k .before .before .sum-in .ensures) _ (k .sum .given .1) (c .before .if1 .left) (c .if2 .taken)
+
+overlap-in-requires : tie.Need-overlap-in-requires
+overlap-in-requires c κs = search needs
+
+returns-3 : tie.Need-returns-3
+returns-3 c =
+    let r = c .before .before in
+    sums-over _ (r .before .before .before .args .size) _ _ (r .sum-in .ensures) (omega arith) (c .enum-told .given .1)
+
+returns-4 : tie.Need-returns-4
+returns-4 c =
+    let k = c .before .before .before .before in
+    sums-apart _ _ _ _ (k .before .before .sum-in .ensures) _ (k .sum .given .1) (c .before .before .if1 .left) (c .before .if2 .left) _ (c .overlap-in .ensures)
 
 pub is-list-fault-spec : {M : Type 1} → statement M
 is-list-fault-spec =
     tie.close
     (tie.spec
-    slice-aggregate-load
-    slice-aggregate-load-2
-    load-requires
-    slice-aggregate-is-fault
-    slice-aggregate-is-fault-2
-    is-fault-requires
-    returns)
+    sum-in-requires
+    enum-told
+    enum-known-sum
+    returns
+    returns-2
+    overlap-in-requires
+    returns-3
+    returns-4)
