@@ -63,7 +63,7 @@ fn sum_in(s: &[u8], at: usize, n: usize) -> Sum
     let mut sum: u64 = 0;
     while 0 < left {
         let g = segment::entry_at(s, from);
-        if 0xFFFF_FFFF_FFFF_FFFF - sum < g.size {
+        if ranges::MOST - sum < g.size {
             return Sum::Over;
         }
         sum += g.size;

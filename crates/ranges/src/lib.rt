@@ -11,7 +11,7 @@ ghost use Rattle.rules.specs.Writer.{paired};
 ghost use Rattle.ranges.specs.Sums.{summed};
 
 // The largest number of 64 bits.
-const MOST: u64 = 0xFFFF_FFFF_FFFF_FFFF;
+pub const MOST: u64 = 0xFFFF_FFFF_FFFF_FFFF;
 
 pub enum Sum {
     Fits(u64),
