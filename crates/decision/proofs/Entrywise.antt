@@ -47,7 +47,7 @@ module _ (s : Bytes) (start n : ℕ) where
       let e : total (entriesFrom n s start) ≡ sum = i .rest ∙ rw (no-entry s left from h) (add-zero sum) in
       rw (e, lt-ltb _ _ (i .fits))
 
--- two that share a position are two
+-- fewer than two entries have no two that share a position
 pub few-apart : (s : Bytes) (n start : ℕ) → n < 2 → false ≡ overlapping (entriesFrom n s start)
 unfolding overlapping any entriesFrom
 few-apart s zero start h = refl

@@ -56,10 +56,11 @@ pub asks-all : Asks overlapping (λ (g : Range) (gs : List Range). any (meet g) 
 unfolding overlapping
 asks-all = record { none = refl; more = λ (g : Range) (gs : List Range). refl }
 
--- The loop over the first n of two lists: what is left of the question at i is the whole of it. `b` is the answer at i.
+-- the first n ranges of two lists
 abbrev pub pairs : (os ns : List ℕ) (n : ℕ) → List Range
 pairs os ns n = paired (take n os) (take n ns)
 
+-- The loop over them: what is left of the question at i answers the whole of it. `b` is the answer of the range at i.
 pub record Left (ask : List Range → Bool) (os ns : List ℕ) (n from i : ℕ) : Type 0 where
   pub within : i ≤ n
   pub rest : ask (drop from (pairs os ns n)) ≡ ask (drop i (pairs os ns n))
