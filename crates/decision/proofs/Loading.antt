@@ -5,19 +5,12 @@ use mathlib.Core.List.{List, [], _∷_, _++_}
 use native.Mathlib.Numerals.{add-one}
 use native.Mathlib.Omega.{arith}
 use lib.ListN.{length, take, set, length-set}
-use lib.Seq.{take-suc-set, length-take-le}
 use Rattle.rules.specs.declared.Range.{Range}
 use Rattle.rules.specs.Bytes.{Bytes}
 use Rattle.rules.specs.Segment.{entryAt, entriesFrom}
 use Rattle.rules.specs.Writer.{paired}
 use Rattle.rules.proofs.Entries.{last-entry}
-
-paired-snoc : (os ns : List ℕ) (o n : ℕ) → length os ≡ length ns → paired (os ++ (o ∷ [])) (ns ++ (n ∷ [])) ≡ paired os ns ++ (record { start = o; size = n } ∷ [])
-unfolding paired
-paired-snoc [] [] o n e = refl
-paired-snoc [] (b ∷ ns) o n e = absurd (omega arith)
-paired-snoc (a ∷ os) [] o n e = absurd (omega arith)
-paired-snoc (a ∷ os) (b ∷ ns) o n e = ap (λ (gs : List Range). record { start = a; size = b } ∷ gs) (paired-snoc os ns o n (omega arith))
+use Rattle.rules.proofs.Paired.{paired-more}
 
 pub record Loaded (s : Bytes) (at n : ℕ) (os₀ ns₀ os ns : List ℕ) (i : ℕ) : Type 0 where
   pub within : i ≤ n
@@ -35,17 +28,16 @@ module _ (s : Bytes) (at n : ℕ) (os₀ ns₀ : List ℕ) where
   loaded-more os ns i l h ho hn g e =
       let io : i < length os = omega (arith, l .offsets) in
       let iN : i < length ns = omega (arith, l .lengths) in
-      let same : length (take i os) ≡ length (take i ns) = length-take-le i os (omega arith) ∙ sym (length-take-le i ns (omega arith)) in
       record {
         within = omega arith;
         offsets = length-set os i (g .start) ∙ l .offsets;
         lengths = length-set ns i (g .size) ∙ l .lengths;
         so-far =
-            rw (add-one i, take-suc-set os i (g .start) io, take-suc-set ns i (g .size) iN)
-            (paired-snoc (take i os) (take i ns) (g .start) (g .size) same
+            paired-more os ns i (g .start) (g .size) io iN
             ∙ ap (λ (gs : List Range). gs ++ (g ∷ [])) (l .so-far)
             ∙ ap (λ (k : Range). entriesFrom i s at ++ (k ∷ [])) e
-            ∙ sym (last-entry s i at));
+            ∙ sym (last-entry s i at)
+            ∙ ap (λ (k : ℕ). entriesFrom k s at) (sym (add-one i));
       }
 
   pub loaded-all : (os ns : List ℕ) (i : ℕ) → Loaded s at n os₀ ns₀ os ns i → n ≤ i → paired (take n os) (take n ns) ≡ entriesFrom n s at

@@ -1,7 +1,7 @@
 -- Two slices of numbers as ranges: what stands at a position, and what the sizes come to.
 use Prim.Native.Nat.{ℕ, zero, suc, _+_, _≤_, _<_}
 use mathlib.Core.Path.{_≡_, refl, ap, sym, _∙_}
-use mathlib.Core.Bool.{Bool, true, false}
+use mathlib.Core.Bool.{Bool, true, false, _||_}
 use mathlib.Core.List.{List, [], _∷_, _++_}
 use native.Mathlib.Numerals.{add-one}
 use native.Mathlib.Omega.{arith}
@@ -34,20 +34,42 @@ no-pair (suc n) [] ns = refl
 no-pair (suc n) (o ∷ os) [] = refl
 no-pair (suc n) (o ∷ os) (m ∷ ns) = no-pair n os ns
 
--- whether one of them passes a test, from i on
-module _ (t : Range → Bool) (os ns : List ℕ) (n i : ℕ) where
-  pub any-here : i < n → n ≤ length os → n ≤ length ns → t (pairAt os ns i) ≡ true → any t (drop i (paired (take n os) (take n ns))) ≡ true
-  unfolding any
-  any-here l h k e = rw (next-pair n i os ns l h k, e)
+-- A question of a list that is asked of each range, beside those behind it: yes where one of them says so.
+pub record Asks (ask : List Range → Bool) (one : Range → List Range → Bool) : Type 0 where
+  pub none : ask [] ≡ false
+  pub more : (g : Range) (gs : List Range) → ask (g ∷ gs) ≡ (one g gs || ask gs)
 
-  pub any-on : i < n → n ≤ length os → n ≤ length ns → t (pairAt os ns i) ≡ false
-      → any t (drop i (paired (take n os) (take n ns))) ≡ any t (drop (i + 1) (paired (take n os) (take n ns)))
-  unfolding any
-  any-on l h k e = rw (add-one i, next-pair n i os ns l h k, e)
+-- whether one of them passes a test
+pub asks-any : (t : Range → Bool) → Asks (any t) (λ (g : Range) (gs : List Range). t g)
+unfolding any
+asks-any t = record { none = refl; more = λ (g : Range) (gs : List Range). refl }
 
-  pub any-none : i ≤ n → n ≤ i → any t (drop i (paired (take n os) (take n ns))) ≡ false
-  unfolding any
-  any-none l m = let e : i ≡ n = omega arith in rw (e, no-pair n os ns)
+-- the first n ranges of two lists
+abbrev pub pairs : (os ns : List ℕ) (n : ℕ) → List Range
+pairs os ns n = paired (take n os) (take n ns)
+
+-- The loop over them: what is left of the question at i answers the whole of it. `b` is the answer of the range at i.
+pub record Left (ask : List Range → Bool) (os ns : List ℕ) (n from i : ℕ) : Type 0 where
+  pub within : i ≤ n
+  pub rest : ask (drop from (pairs os ns n)) ≡ ask (drop i (pairs os ns n))
+
+module _ {ask : List Range → Bool} {one : Range → List Range → Bool} (asks : Asks ask one) (os ns : List ℕ) (n from : ℕ) where
+  pub left-all : from ≤ n → Left ask os ns n from from
+  left-all l = record { within = l; rest = refl }
+
+  module _ (i : ℕ) (k : Left ask os ns n from i) where
+    module _ (l : i < n) (ho : n ≤ length os) (hn : n ≤ length ns) {g : Range} (q : g ≡ pairAt os ns i) {b : Bool} (e : b ≡ one g (drop (i + 1) (pairs os ns n))) where
+      here : ask (drop from (pairs os ns n)) ≡ (b || ask (drop (i + 1) (pairs os ns n)))
+      here = k .rest ∙ rw (next-pair n i os ns l ho hn, asks .more, ← add-one i, ← q, ← e)
+
+      pub left-hit : b ≡ true → true ≡ ask (drop from (pairs os ns n))
+      left-hit t = sym (here ∙ rw t)
+
+      pub left-on : b ≡ false → Left ask os ns n from (i + 1)
+      left-on f = record { within = omega arith; rest = here ∙ rw f }
+
+    pub left-none : n ≤ i → false ≡ ask (drop from (pairs os ns n))
+    left-none m = let e : i ≡ n = omega (arith, k .within) in sym (k .rest ∙ rw (e, no-pair n os ns, asks .none))
 
 -- one range more, behind the others
 paired-snoc : (os ns : List ℕ) (o n : ℕ) → length os ≡ length ns → paired (os ++ (o ∷ [])) (ns ++ (n ∷ [])) ≡ paired os ns ++ (record { start = o; size = n } ∷ [])

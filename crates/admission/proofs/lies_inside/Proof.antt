@@ -1,24 +1,22 @@
 -- `admission::lies_inside` meets its contract: none of the allowances passed has the range.
+use Prim.Native.Nat.{_-_}
+use mathlib.Core.Path.{refl}
 use borrow.Author.Needs.{needs}
-use Prim.Native.Nat.{_≤_, _-_}
-use mathlib.Core.Path.{_≡_, refl, sym, _∙_}
 use native.Mathlib.Omega.{arith}
-use lib.ListN.{take, drop}
 use Rattle.rules.specs.Bytes.{any}
-use Rattle.rules.specs.Writer.{paired}
-use Rattle.rules.proofs.Paired.{any-here, any-on, any-none}
+use Rattle.rules.proofs.Paired.{asks-any, Left, left-all, left-hit, left-on, left-none}
 use Rattle.capability.specs.Terms.{insideOf}
 use Rattle.admission.proofs.lies_inside.Statement.{statement}
 use Rattle.admission.proofs.lies_inside.Tie as tie
 
 abbrev Inv-loop : tie.InvT-loop
-Inv-loop starts sizes n g i₀ i = (i ≤ n) × (any (insideOf g) (paired (take n starts) (take n sizes)) ≡ any (insideOf g) (drop i (paired (take n starts) (take n sizes))))
+Inv-loop starts sizes n g i₀ i = Left (any (insideOf g)) starts sizes n 0 i
 
 abbrev μ-loop : tie.MeasureT-loop
 μ-loop starts sizes n g i₀ i = n - i
 
 loop-holds : tie.Need-loop-holds Inv-loop μ-loop
-loop-holds c = (omega arith, refl)
+loop-holds c = left-all (asks-any _) _ _ _ _ (omega arith)
 
 mul-t8 : tie.Need-mul-t8 Inv-loop μ-loop
 mul-t8 c = omega arith
@@ -39,7 +37,7 @@ returns : tie.Need-returns Inv-loop μ-loop
 returns c =
     let t = c .before .before .before .before in
     let s = t .before .before .before .before in
-    sym (t .before .loop .inv .1 ∙ any-here _ _ _ _ _ (t .loop-test .taken) (s .pre .0) (s .pre .1) (sym (c .before .is-allowed .ensures) ∙ c .if1 .taken))
+    left-hit (asks-any _) _ _ _ _ _ (t .before .loop .inv) (t .loop-test .taken) (s .pre .0) (s .pre .1) refl (c .before .is-allowed .ensures) (c .if1 .taken)
 
 add-i : tie.Need-add-i Inv-loop μ-loop
 add-i c = omega arith
@@ -51,10 +49,10 @@ loop-again : tie.Need-loop-again Inv-loop μ-loop
 loop-again c =
     let t = c .before .before .before .before in
     let s = t .before .before .before .before in
-    (omega arith, t .before .loop .inv .1 ∙ any-on _ _ _ _ _ (t .loop-test .taken) (s .pre .0) (s .pre .1) (sym (c .before .is-allowed .ensures) ∙ c .if1 .left))
+    left-on (asks-any _) _ _ _ _ _ (t .before .loop .inv) (t .loop-test .taken) (s .pre .0) (s .pre .1) refl (c .before .is-allowed .ensures) (c .if1 .left)
 
 returns-2 : tie.Need-returns-2 Inv-loop μ-loop
-returns-2 c = sym (c .before .loop .inv .1 ∙ any-none _ _ _ _ _ (c .before .loop .inv .0) (c .loop-test .left))
+returns-2 c = left-none (asks-any _) _ _ _ _ _ (c .before .loop .inv) (c .loop-test .left)
 
 pub lies-inside-spec : {M : Type 1} → statement M
 lies-inside-spec =

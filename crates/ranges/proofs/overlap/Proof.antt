@@ -2,7 +2,8 @@
 use Prim.Native.Nat.{_-_}
 use native.Mathlib.Omega.{arith}
 use Rattle.rules.specs.Ranges.{overlapping}
-use Rattle.ranges.proofs.Meetings.{asks-all, Left, left-all, left-hit, left-on, left-none}
+use Rattle.rules.proofs.Paired.{Left, left-all, left-hit, left-on, left-none}
+use Rattle.ranges.proofs.Meetings.{asks-all}
 use Rattle.ranges.proofs.overlap.Statement.{statement}
 use Rattle.ranges.proofs.overlap.Tie as tie
 
