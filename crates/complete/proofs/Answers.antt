@@ -42,10 +42,10 @@ use Rattle.decision.proofs.decide.Reads as decide
 use Rattle.object.proofs.grow.Reads as grow
 use Rattle.object.proofs.write_range.Reads as write-range
 use Rattle.object.proofs.clear_range.Reads as clear-range
-use Rattle.object.proofs.punch.Reads as punch
-use Rattle.object.proofs.gather.Reads as gather
-use Rattle.object.proofs.gather_list.Reads as gather-list
-use Rattle.object.proofs.scatter_list.Reads as scatter-list
+use Rattle.within.proofs.punch.Reads as punch
+use Rattle.within.proofs.gather.Reads as gather
+use Rattle.lists.proofs.gather_list.Reads as gather-list
+use Rattle.lists.proofs.scatter_list.Reads as scatter-list
 use Rattle.layout.proofs.put_cdb.Reads as put-cdb
 use Rattle.layout.proofs.put_segment.Reads as put-segment
 use Rattle.writer.proofs.write_command.Reads as write-command
@@ -182,7 +182,7 @@ one-capability-that-admits κs a r r′ s s′ e f = (e .bytes ∙ sym (f .bytes
 one-decide : One decide.Post
 one-decide κs a r r′ s s′ e f = e ∙ sym f
 
--- ---- `object`: an object's bytes
+-- ---- `object`: bytes put into a range
 one-grow : Left grow.Post (λ κs s. now (s .0))
 one-grow κs a r r′ s s′ e f = e ∙ sym f
 
@@ -192,12 +192,14 @@ one-write-range κs a r r′ s s′ e f = e ∙ sym f
 one-clear-range : Left clear-range.Post (λ κs s. now (s .0))
 one-clear-range κs a r r′ s s′ e f = e ∙ sym f
 
+-- ---- `within`: what of a range lies within the object
 one-punch : Both punch.Post (λ κs s. now (s .0))
 one-punch κs a r r′ s s′ e f = (e .0 ∙ sym (f .0), e .1 ∙ sym (f .1))
 
 one-gather : Both gather.Post (λ κs s. now (s .1 .1 .1 .0))
 one-gather κs a r r′ s s′ e f = (e .0 ∙ sym (f .0), e .1 ∙ sym (f .1))
 
+-- ---- `lists`: a list's ranges
 one-gather-list : Both gather-list.Post (λ κs s. now (s .1 .1 .1 .1 .1 .0))
 one-gather-list κs a r r′ s s′ e f = (e .0 ∙ sym (f .0), e .1 ∙ sym (f .1))
 

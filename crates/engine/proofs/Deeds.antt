@@ -26,8 +26,8 @@ use Rattle.rules.proofs.Write.{grown-length}
 use Rattle.header.specs.declared.Parsed.{Parsed}
 use Rattle.decision.specs.Decisions.{rangesIn, beyondIn}
 use Rattle.decision.proofs.Spots.{list-lies, sole-range, entry-ranges}
-use Rattle.object.proofs.Sole.{gathered-sole}
-use Rattle.object.proofs.Scattering.{reach-from}
+use Rattle.within.proofs.Sole.{gathered-sole}
+use Rattle.lists.proofs.Scattering.{reach-from}
 use Rattle.engine.specs.Deeds.{sole, ForRead, ForWrite, ForClear, ForPunch}
 
 -- ---- READ: what was gathered stands first in Data-In

@@ -53,9 +53,9 @@ fn gather_ranges(
     let found = said.found;
     let list = found.list;
     match list {
-        Spot::Absent => object::gather(slice, logical, sole_range(said), input, 0),
+        Spot::Absent => within::gather(slice, logical, sole_range(said), input, 0),
         Spot::At(part) => {
-            object::gather_list(segment, part.at, entries_of(part), slice, logical, input)
+            lists::gather_list(segment, part.at, entries_of(part), slice, logical, input)
         }
     }
 }
@@ -111,7 +111,7 @@ fn scatter_ranges(
         }
         Spot::At(part) => {
             object::grow(slice, logical, raised);
-            object::scatter_list(segment, part.at, entries_of(part), out, from, slice);
+            lists::scatter_list(segment, part.at, entries_of(part), out, from, slice);
             return;
         }
     }
@@ -148,7 +148,7 @@ fn punch(said: Parsed, on: Record, slice: &mut [u8]) -> Answer
         (r ≡ answer Done (on .length - length o) (lengthened on (length o)))
         × (now (slice .exit) ≡ o ++ zeros (on .length - length o) ++ drop (on .length) (now (slice .entry)))) ⌝ }
 {
-    let count = object::punch(slice, on.length as usize, sole_range(said)) as u64;
+    let count = within::punch(slice, on.length as usize, sole_range(said)) as u64;
     done(on.shortened(count), count)
 }
 

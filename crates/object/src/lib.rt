@@ -1,16 +1,12 @@
-// The movers of an object's bytes: grow, punch, write and clear a range, gather, scatter. Each says what every byte of the slices it
-// writes is afterwards.
+// Bytes put into a range of the object: written or cleared, with the gap in front of it made zero where it raises the length.
 use rules::Range;
 ghost use mathlib.Core.Path.{_≡_};
-ghost use mathlib.Core.Bool.{false};
-ghost use mathlib.Core.List.{[], _∷_, _++_};
-ghost use Prim.Native.Nat.{_+_, _-_, _*_, _≤_, min, max};
-ghost use lib.ListN.{length, take, drop};
-ghost use lib.Dec.{ltb};
-ghost use Rattle.rules.specs.Bytes.{part, zeros, laid, any};
-ghost use Rattle.rules.specs.Ranges.{total, reach};
-ghost use Rattle.rules.specs.Segment.{entriesFrom};
-ghost use Rattle.rules.specs.Object.{gathered, scattered, grown, punched};
+ghost use mathlib.Core.List.{[], _∷_};
+ghost use Prim.Native.Nat.{_+_, _≤_, max};
+ghost use lib.ListN.{length, drop};
+ghost use Rattle.rules.specs.Bytes.{zeros};
+ghost use Rattle.rules.specs.Ranges.{reach};
+ghost use Rattle.rules.specs.Object.{scattered, grown};
 
 pub fn grow(s: &mut [u8], old: usize, new: usize)
     requires { ⌜ (old ≤ new) × (new ≤ length (now s)) ⌝ }
@@ -52,95 +48,4 @@ pub fn clear_range(slice: &mut [u8], logical: usize, g: Range)
     let start = g.start as usize;
     grow(slice, logical, largest(logical, start));
     movers::wipe(slice, start, g.size as usize);
-}
-
-// how many of the range's bytes the object has
-fn count_in(g: Range, logical: usize) -> usize
-    requires { ⌜ g .start ≤ logical ⌝ }
-    ensures { λ r. ⌜ r ≡ min (g .size) (logical - g .start) ⌝ }
-{
-    let most = logical - g.start as usize;
-    if g.size < most as u64 {
-        return g.size as usize;
-    }
-    most
-}
-
-// The object is the slice's first `logical` bytes; the answer is how many of them the range had.
-pub fn punch(s: &mut [u8], logical: usize, g: Range) -> usize
-    requires { ⌜ (g .start ≤ logical) × (logical ≤ length (now s)) ⌝ }
-    ensures { λ r. ⌜ (let o = punched g (take logical (now (s .entry))) in
-        (r ≡ logical - length o) × (now (s .exit) ≡ o ++ zeros (logical - length o) ++ drop logical (now (s .entry)))) ⌝ }
-{
-    let start = g.start as usize;
-    let count = count_in(g, logical);
-    if count == 0 {
-        return 0;
-    }
-    let behind = logical - start - count;
-    movers::move_down(s, start + count, behind, start);
-    movers::wipe(s, start + behind, count);
-    count
-}
-
-// The bytes of one range, as far as the object goes; the answer is how many they are.
-pub fn gather(slice: &[u8], logical: usize, g: Range, input: &mut [u8], to: usize) -> usize
-    requires { ⌜ (g .start ≤ logical) × (logical ≤ length (now slice)) × (to + g .size ≤ length (now input)) ⌝ }
-    ensures { λ r. ⌜ (let d = part (g .start) (g .size) (take logical (now (slice .entry))) in
-        (r ≡ length d) × (now (input .exit) ≡ laid to d (now (input .entry)))) ⌝ }
-{
-    let start = g.start as usize;
-    let n = count_in(g, logical);
-    movers::copy(slice, start, n, input, to);
-    n
-}
-
-// The n ranges that stand in the segment s from `at` on, in order; one that the object's end cuts short is the last.
-pub fn gather_list(
-    s: &[u8],
-    at: usize,
-    n: usize,
-    slice: &[u8],
-    logical: usize,
-    input: &mut [u8],
-) -> usize
-    requires { ⌜ (at + 16 * n ≤ length (now s)) × (logical ≤ length (now slice)) ⌝ }
-    requires { ⌜ any (λ (g : Range). ltb logical (g .start)) (entriesFrom n (now s) at) ≡ false ⌝ }
-    requires { ⌜ total (entriesFrom n (now s) at) ≤ length (now input) ⌝ }
-    ensures { λ r. ⌜ (let d = gathered (take logical (now (slice .entry))) (entriesFrom n (now (s .entry)) at) in
-        (r ≡ length d) × (now (input .exit) ≡ d ++ drop (length d) (now (input .entry)))) ⌝ }
-{
-    let mut place = at;
-    let mut left = n;
-    let mut done: usize = 0;
-    while 0 < left {
-        let g = segment::entry_at(s, place);
-        let got = gather(slice, logical, g, input, done);
-        done += got;
-        if (got as u64) < g.size {
-            return done;
-        }
-        place += 16;
-        left -= 1;
-    }
-    done
-}
-
-// The ranges are filled in order from Data-Out's bytes from `from` on.
-pub fn scatter_list(s: &[u8], at: usize, n: usize, out: &[u8], from: usize, slice: &mut [u8])
-    requires { ⌜ (at + 16 * n ≤ length (now s)) × (from + total (entriesFrom n (now s) at) ≤ length (now out)) ⌝ }
-    requires { ⌜ reach 0 (entriesFrom n (now s) at) ≤ length (now slice) ⌝ }
-    ensures { λ _. ⌜ now (slice .exit) ≡ scattered (now (slice .entry)) (entriesFrom n (now (s .entry)) at) (drop from (now (out .entry))) ⌝ }
-{
-    let mut place = at;
-    let mut left = n;
-    let mut next = from;
-    while 0 < left {
-        let g = segment::entry_at(s, place);
-        let size = g.size as usize;
-        movers::copy(out, next, size, slice, g.start as usize);
-        next += size;
-        place += 16;
-        left -= 1;
-    }
 }

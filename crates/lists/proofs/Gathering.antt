@@ -15,8 +15,8 @@ use Rattle.rules.specs.Segment.{entryAt, entriesFrom}
 use Rattle.rules.specs.Object.{gathered}
 use Rattle.rules.proofs.Booleans.{or-false-parts}
 use Rattle.rules.proofs.Lists.{laid-length}
-use Rattle.object.proofs.Within.{part-count}
-use Rattle.object.proofs.Entries.{entries-more}
+use Rattle.within.proofs.Within.{part-count}
+use Rattle.lists.proofs.Entries.{entries-more}
 
 -- Of d, `done` bytes stand in the input i, which was i₀, and `rest` is to come.
 pub record Putting (d i₀ i : Bytes) (done : ℕ) (rest : Bytes) : Type 0 where

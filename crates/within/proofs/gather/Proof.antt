@@ -1,8 +1,8 @@
--- `object::gather` meets its contract: the slice's bytes that are copied are the object's bytes of the range.
+-- `within::gather` meets its contract: the slice's bytes that are copied are the object's bytes of the range.
 use borrow.Author.Needs.{needs}
-use Rattle.object.proofs.Within.{gathers}
-use Rattle.object.proofs.gather.Statement.{statement}
-use Rattle.object.proofs.gather.Tie as tie
+use Rattle.within.proofs.Within.{gathers}
+use Rattle.within.proofs.gather.Statement.{statement}
+use Rattle.within.proofs.gather.Tie as tie
 
 count-in-requires : tie.Need-count-in-requires
 count-in-requires c κs = search needs

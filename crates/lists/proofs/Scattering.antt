@@ -12,7 +12,7 @@ use Rattle.rules.specs.Ranges.{total, reach}
 use Rattle.rules.specs.Segment.{entryAt, entriesFrom}
 use Rattle.rules.specs.Object.{scattered}
 use Rattle.rules.proofs.Positions.{Inside, inside-ends, inside-later, reach-above, reach-least}
-use Rattle.object.proofs.Entries.{entries-more}
+use Rattle.lists.proofs.Entries.{entries-more}
 
 -- of the entries that stand in s, `left` from `place` on are still to come, and d's bytes from `next` on are for them
 pub record Scattering (o₀ : Bytes) (gs : List Range) (from : ℕ) (d s o : Bytes) (place left next : ℕ) : Type 0 where

@@ -1,12 +1,12 @@
--- `object::gather_list` meets its contract: the invariant is `Gathering`, and the measure the entries still to come.
+-- `lists::gather_list` meets its contract: the invariant is `Gathering`, and the measure the entries still to come.
 use mathlib.Core.Path.{_∙_}
 use borrow.Author.Needs.{needs}
 use native.Mathlib.Omega.{arith}
 use lib.ListN.{take}
 use Rattle.rules.specs.Segment.{entriesFrom}
-use Rattle.object.proofs.Gathering.{Gathering, gathering-none, gathering-end, turn-asks, turn-fits, turn-more, turn-last}
-use Rattle.object.proofs.gather_list.Statement.{statement}
-use Rattle.object.proofs.gather_list.Tie as tie
+use Rattle.lists.proofs.Gathering.{Gathering, gathering-none, gathering-end, turn-asks, turn-fits, turn-more, turn-last}
+use Rattle.lists.proofs.gather_list.Statement.{statement}
+use Rattle.lists.proofs.gather_list.Tie as tie
 
 abbrev Inv-loop : tie.InvT-loop
 Inv-loop s at n slice logical input₀ place₀ left₀ done₀ input place left done =

@@ -1,10 +1,10 @@
--- `object::scatter_list` meets its contract: the invariant is `Scattering`, and the measure the entries still to come.
+-- `lists::scatter_list` meets its contract: the invariant is `Scattering`, and the measure the entries still to come.
 use borrow.Author.Needs.{needs}
 use native.Mathlib.Omega.{arith}
 use Rattle.rules.specs.Segment.{entriesFrom}
-use Rattle.object.proofs.Scattering.{Scattering, scattering-none, scattering-end, turn-asks, turn}
-use Rattle.object.proofs.scatter_list.Statement.{statement}
-use Rattle.object.proofs.scatter_list.Tie as tie
+use Rattle.lists.proofs.Scattering.{Scattering, scattering-none, scattering-end, turn-asks, turn}
+use Rattle.lists.proofs.scatter_list.Statement.{statement}
+use Rattle.lists.proofs.scatter_list.Tie as tie
 
 abbrev Inv-loop : tie.InvT-loop
 Inv-loop s at n out from slice₀ place₀ left₀ next₀ slice place left next =

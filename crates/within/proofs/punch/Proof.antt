@@ -1,8 +1,8 @@
--- `object::punch` meets its contract: what follows the range's bytes moves down over them, and as many zeros are laid behind it.
+-- `within::punch` meets its contract: what follows the range's bytes moves down over them, and as many zeros are laid behind it.
 use borrow.Author.Needs.{needs}
-use Rattle.object.proofs.Within.{cut-nothing, cut-done}
-use Rattle.object.proofs.punch.Statement.{statement}
-use Rattle.object.proofs.punch.Tie as tie
+use Rattle.within.proofs.Within.{cut-nothing, cut-done}
+use Rattle.within.proofs.punch.Statement.{statement}
+use Rattle.within.proofs.punch.Tie as tie
 
 count-in-requires : tie.Need-count-in-requires
 count-in-requires c κs = search needs
