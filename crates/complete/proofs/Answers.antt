@@ -26,9 +26,9 @@ use Rattle.movers.proofs.copy.Reads as copy
 use Rattle.movers.proofs.wipe.Reads as wipe
 use Rattle.movers.proofs.move_down.Reads as move-down
 use Rattle.segment.proofs.standing_at.Reads as standing-at
-use Rattle.segment.proofs.step_from.Reads as step-from
-use Rattle.segment.proofs.walk_over.Reads as walk-over
 use Rattle.segment.proofs.entry_at.Reads as entry-at
+use Rattle.walk.proofs.step_from.Reads as step-from
+use Rattle.walk.proofs.walk_over.Reads as walk-over
 use Rattle.reader.proofs.nth_of.Reads as nth-of
 use Rattle.header.proofs.read_command.Reads as read-command
 use Rattle.capability.proofs.is_match.Reads as is-match
@@ -116,18 +116,19 @@ one-wipe κs a r r′ s s′ e f = e ∙ sym f
 one-move-down : Left move-down.Post (λ κs s. now (s .0))
 one-move-down κs a r r′ s s′ e f = e ∙ sym f
 
--- ---- `segment`: the walk
+-- ---- `segment`: what stands at a position
 one-standing-at : One standing-at.Post
 one-standing-at κs a r r′ s s′ e f = e ∙ sym f
 
+one-entry-at : One entry-at.Post
+one-entry-at κs a r r′ s s′ e f = e ∙ sym f
+
+-- ---- `walk`: the walk over a segment
 one-step-from : One step-from.Post
 one-step-from κs a r r′ s s′ e f = e ∙ sym f
 
 one-walk-over : One walk-over.Post
 one-walk-over κs a r r′ s s′ e f = e ∙ sym f
-
-one-entry-at : One entry-at.Post
-one-entry-at κs a r r′ s s′ e f = e ∙ sym f
 
 -- ---- `reader`: the reader
 one-nth-of : One nth-of.Post

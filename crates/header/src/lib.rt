@@ -128,7 +128,7 @@ fn read_segment(cdb: &[u8], out: &[u8], on: Record, action: u16, said: Parsed) -
     if is_wrong_head(segment, action) {
         return Reading::Unreadable(Refusal::SegmentHeader);
     }
-    let walk = segment::walk_over(segment);
+    let walk = walk::walk_over(segment);
     match walk {
         Walk::Broken(_, _) => Reading::Unreadable(Refusal::Descriptor),
         Walk::Whole(found) => {

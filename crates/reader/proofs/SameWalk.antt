@@ -17,10 +17,10 @@ use Rattle.rules.specs.declared.Walk.{Walk}
 use Rattle.rules.specs.declared.Walk.the-variants.{Whole, Broken}
 use Rattle.rules.specs.Bytes.{Bytes}
 use Rattle.rules.specs.Segment.{here, next, walkFrom, walk}
-use Rattle.segment.specs.declared.Step.{Step}
-use Rattle.segment.specs.declared.Step.the-variants.{Stop, On}
-use Rattle.segment.specs.Step.{unlessMet, stepOf, stepped}
-use Rattle.segment.proofs.Walking.{run, follow-run, stops, goes-on, onwards}
+use Rattle.walk.specs.declared.Step.{Step}
+use Rattle.walk.specs.declared.Step.the-variants.{Stop, On}
+use Rattle.walk.specs.Step.{unlessMet, stepOf, stepped}
+use Rattle.walk.proofs.Walking.{run, follow-run, stops, goes-on, onwards}
 use Rattle.reader.specs.declared.Position.{Position}
 use Rattle.reader.specs.Position.{start, newly, metBy, met, passed, after, behind}
 use Rattle.reader.proofs.Stepping.{stays, moves}

@@ -1,11 +1,11 @@
 // A reader that holds a lent segment together with a position in it, and thin functions over it. Each function over the
 // struct is proved by hand, so none has a branch, a match or a loop: those are in the functions over a plain slice and a
-// position, which take their steps from `segment`.
+// position, which take their steps from `walk`.
 use rules::Found;
 use rules::Here;
 use rules::Spot;
 use rules::Walk;
-use segment::Step;
+use walk::Step;
 ghost use mathlib.Core.Path.{_≡_};
 ghost use Rattle.reader.specs.Position.{start, met, after, left};
 
@@ -39,7 +39,7 @@ fn met_at(s: &[u8], position: Position) -> Here
 {
     let at = position.at;
     let found = position.found;
-    let step = segment::step_from(s, at, found);
+    let step = walk::step_from(s, at, found);
     match step {
         Step::Stop(walk) => match walk {
             Walk::Whole(_) => Here::End,
@@ -57,7 +57,7 @@ fn position_after(s: &[u8], position: Position, steps: usize) -> Position
     let mut found = position.found;
     let mut more = steps;
     while more > 0 {
-        let step = segment::step_from(s, at, found);
+        let step = walk::step_from(s, at, found);
         match step {
             Step::Stop(_) => more = 0,
             Step::On(next, now) => {

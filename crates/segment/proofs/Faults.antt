@@ -16,7 +16,7 @@ use Rattle.rules.specs.declared.Here.{Here}
 use Rattle.rules.specs.declared.Here.the-variants.{Entries, Extensions, Fault}
 use Rattle.segment.specs.declared.Verdict.{Verdict}
 use Rattle.segment.specs.declared.Verdict.the-variants.{Sound, Faulty}
-use Rattle.segment.specs.Step.{judged}
+use Rattle.segment.specs.Verdict.{judged}
 
 module _ (s : Bytes) (at size pad supported : ℕ) (es : size ≡ sizeAt s at) (ep : pad ≡ padAt s at) where
   pub over : (fits : Bool) → supported < size → Faulty Over ≡ judged (firstOf (faults supported fits s at))

@@ -1,4 +1,3 @@
 pub mod Blank
 pub mod Faults
 pub mod Standing
-pub mod Walking

@@ -1,1 +1,1 @@
-pub mod Step
+pub mod Verdict

@@ -16,9 +16,9 @@ use Rattle.rules.specs.declared.Walk.the-variants.{Whole, Broken}
 use Rattle.rules.specs.Bytes.{Bytes}
 use Rattle.rules.specs.Segment.{here, once, follow, walkFrom}
 use Rattle.rules.proofs.Segment.{list-here, extension-here, next-is, beyond, onward}
-use Rattle.segment.specs.declared.Step.{Step}
-use Rattle.segment.specs.declared.Step.the-variants.{Stop, On}
-use Rattle.segment.specs.Step.{unlessMet, stepOf, stepped}
+use Rattle.walk.specs.declared.Step.{Step}
+use Rattle.walk.specs.declared.Step.the-variants.{Stop, On}
+use Rattle.walk.specs.Step.{unlessMet, stepOf, stepped}
 
 module _ (s : Bytes) (at : ℕ) (f : Found) (h : Here) (e : h ≡ here s at) where
   is : (k : Here) → h ≡ k → here s at ≡ k

@@ -1,7 +1,5 @@
--- Names for what the walk's inner functions answer, by the book's definitions.
+-- Names for what a step of the walk answers, by the book's definitions.
 use Prim.Native.Nat.{ℕ}
-use mathlib.Core.Option.{Option, none, some}
-use Rattle.rules.specs.declared.Cause.{Cause}
 use Rattle.rules.specs.declared.Cause.the-variants.{Repeated}
 use Rattle.rules.specs.declared.Here.{Here}
 use Rattle.rules.specs.declared.Here.the-variants.{End, Entries, Extensions, Fault}
@@ -11,15 +9,8 @@ use Rattle.rules.specs.declared.Found.{Found}
 use Rattle.rules.specs.declared.Walk.the-variants.{Whole, Broken}
 use Rattle.rules.specs.Bytes.{Bytes}
 use Rattle.rules.specs.Segment.{here, next}
-use Rattle.segment.specs.declared.Verdict.{Verdict}
-use Rattle.segment.specs.declared.Verdict.the-variants.{Sound, Faulty}
-use Rattle.segment.specs.declared.Step.{Step}
-use Rattle.segment.specs.declared.Step.the-variants.{Stop, On}
-
--- the first fault, or none
-abbrev pub judged : Option Cause → Verdict
-judged none = Sound
-judged (some c) = Faulty c
+use Rattle.walk.specs.declared.Step.{Step}
+use Rattle.walk.specs.declared.Step.the-variants.{Stop, On}
 
 -- a type that was met before ends the walk
 abbrev pub unlessMet : Spot → (at : ℕ) → Step → Step

@@ -1,13 +1,13 @@
--- `segment::walk_over` meets its contract: what is left of the walk from here on is the whole walk, and each step comes further.
+-- `walk::walk_over` meets its contract: what is left of the walk from here on is the whole walk, and each step comes further.
 use borrow.Author.Needs.{needs}
 use Prim.Native.Nat.{_-_}
 use mathlib.Core.Path.{_≡_, refl, sym, _∙_}
 use native.Mathlib.Omega.{arith}
 use lib.ListN.{length}
 use Rattle.rules.specs.Segment.{walkFrom, walk}
-use Rattle.segment.proofs.Walking.{ends, faults, list-again, extension-again, list-on, extension-on, list-ends, extension-ends, stops, goes-on, onwards}
-use Rattle.segment.proofs.walk_over.Statement.{statement}
-use Rattle.segment.proofs.walk_over.Tie as tie
+use Rattle.walk.proofs.Walking.{ends, faults, list-again, extension-again, list-on, extension-on, list-ends, extension-ends, stops, goes-on, onwards}
+use Rattle.walk.proofs.walk_over.Statement.{statement}
+use Rattle.walk.proofs.walk_over.Tie as tie
 
 abbrev Inv-loop : tie.InvT-loop
 Inv-loop s at₀ list₀ extension₀ at list extension = walk s ≡ walkFrom (length s) s at (record { list = list; extension = extension })

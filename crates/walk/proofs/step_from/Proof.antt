@@ -1,8 +1,8 @@
 use native.Mathlib.Omega.{arith}
-use Rattle.segment.proofs.Walking.{ends, faults, list-again, extension-again, list-on, extension-on, list-ends, extension-ends}
+use Rattle.walk.proofs.Walking.{ends, faults, list-again, extension-again, list-on, extension-on, list-ends, extension-ends}
 use borrow.Author.Needs.{needs}
-use Rattle.segment.proofs.step_from.Statement.{statement}
-use Rattle.segment.proofs.step_from.Tie as tie
+use Rattle.walk.proofs.step_from.Statement.{statement}
+use Rattle.walk.proofs.step_from.Tie as tie
 
 standing-at-requires : tie.Need-standing-at-requires
 standing-at-requires c κs = search needs
