@@ -46,7 +46,7 @@ use Rattle.within.proofs.punch.Reads as punch
 use Rattle.within.proofs.gather.Reads as gather
 use Rattle.lists.proofs.gather_list.Reads as gather-list
 use Rattle.lists.proofs.scatter_list.Reads as scatter-list
-use Rattle.layout.proofs.put_cdb.Reads as put-cdb
+use Rattle.cdb.proofs.put_cdb.Reads as put-cdb
 use Rattle.layout.proofs.put_segment.Reads as put-segment
 use Rattle.writer.proofs.write_command.Reads as write-command
 use Rattle.numbers.proofs.number_of.Reads as number-of
@@ -207,10 +207,11 @@ one-gather-list κs a r r′ s s′ e f = (e .0 ∙ sym (f .0), e .1 ∙ sym (f 
 one-scatter-list : Left scatter-list.Post (λ κs s. now (s .1 .1 .1 .1 .1 .0))
 one-scatter-list κs a r r′ s s′ e f = e ∙ sym f
 
--- ---- `layout`: the bytes of a command as a host writes it
+-- ---- `cdb`: the CDB as a host writes it
 one-put-cdb : Left put-cdb.Post (λ κs s. now (s .0))
 one-put-cdb κs a r r′ s s′ e f = e ∙ sym f
 
+-- ---- `layout`: the segment as a host writes it
 one-put-segment : Left put-segment.Post (λ κs s. now (s .0))
 one-put-segment κs a r r′ s s′ e f = e ∙ sym f
 

@@ -1,7 +1,7 @@
--- What the pieces come to that are written one behind the other.
+-- What the segment's pieces come to that are written one behind the other.
 use Prim.Native.Nat.{ℕ, zero-le, _+_, _*_, _-_, _≤_, _<_}
 use mathlib.Core.Path.{_≡_, refl, ap, sym, _∙_}
-use mathlib.Core.List.{List, [], _∷_, _++_, append-assoc}
+use mathlib.Core.List.{List, [], _++_}
 use mathlib.Core.Bool.{Bool, true, false, cond, _||_, or-true}
 use native.Mathlib.Nat.{le-of-eq}
 use native.Mathlib.Numerals.{add-one}
@@ -9,61 +9,16 @@ use native.Mathlib.Omega.{arith}
 use lib.ListN.{length, take, drop, getD, length-append, length-drop}
 use lib.Seq.{length-take-le, take-all}
 use lib.Dec.{ltb}
-use borrow.Author.Tests.{ltb-true, lt-ltb, le-ltb}
+use borrow.Author.Tests.{lt-ltb, le-ltb}
 use Rattle.rules.specs.Bytes.{Bytes, part, zeros, toBe, laid}
 use Rattle.rules.specs.Writer.{paired, spelled, descriptor}
 use Rattle.rules.proofs.BigEndian.{length-toBe}
 use Rattle.rules.proofs.Spelled.{length-spelled, length-paired, spelled-more, length-descriptor}
 use Rattle.rules.proofs.Lists.{laid-nothing}
-use Rattle.rules.proofs.Laying.{first-piece, next-piece, length-part}
-use Rattle.layout.specs.Parts.{cdbParts, segmentHead, listPart, extensionPart, segmentParts, sizeFor}
-use Rattle.layout.proofs.Numbers.{head-numbers, format-number, own-number}
-
-length-pair : (x y : ℕ) → length (toBe 8 x ++ toBe 8 y) ≡ 16
-length-pair x y = simp (length-append, length-toBe)
-
-pub pair-laid : (at x y : ℕ) (s : Bytes) {t u : Bytes} → at ≤ length s → t ≡ laid at (toBe 8 x) s → u ≡ laid (at + 8) (toBe 8 y) t
-    → u ≡ laid at (toBe 8 x ++ toBe 8 y) s
-pair-laid at x y s room first second =
-    next-piece (toBe 8 y) (first-piece s (toBe 8 x) (length-toBe 8 x) first room) refl (length-toBe 8 y) second .is
-
--- ---- the CDB
-
-paired-up : (h p o n z k f c e : Bytes) → h ++ (p ++ o) ++ (n ++ z) ++ k ++ f ++ c ++ e ≡ h ++ p ++ o ++ n ++ z ++ k ++ f ++ c ++ e
-paired-up h p o n z k f c e = simp append-assoc
-
-module _ (a p o n z k : ℕ) (c : Bytes) where
-  cdb-bytes : (toBe 8 0x7F000000000000E4 ++ toBe 8 (0x1000000000000 * a))
-      ++ (toBe 8 p ++ toBe 8 o)
-      ++ (toBe 8 n ++ toBe 8 z)
-      ++ toBe 4 k
-      ++ zeros 28
-      ++ take 104 c
-      ++ zeros 52
-      ≡ cdbParts a p o n z k c
-  unfolding cdbParts
-  cdb-bytes =
-      rw (head-numbers a)
-      (paired-up ((0x7F ∷ []) ++ zeros 6 ++ (228 ∷ []) ++ toBe 2 a ++ zeros 6) (toBe 8 p) (toBe 8 o) (toBe 8 n) (toBe 8 z) (toBe 4 k) (zeros 28)
-      (take 104 c) (zeros 52))
-
-  pub cdb-laid : (s : Bytes) {s₁ s₂ s₃ s₄ s₅ s₆ s₇ : Bytes} → 104 ≤ length c
-      → s₁ ≡ laid 0 (toBe 8 0x7F000000000000E4 ++ toBe 8 (0x1000000000000 * a)) s
-      → s₂ ≡ laid 16 (toBe 8 p ++ toBe 8 o) s₁
-      → s₃ ≡ laid 32 (toBe 8 n ++ toBe 8 z) s₂
-      → s₄ ≡ laid 48 (toBe 4 k) s₃
-      → s₅ ≡ laid 52 (zeros 28) s₄
-      → s₆ ≡ laid 80 (part 0 104 c) s₅
-      → s₇ ≡ laid 184 (zeros 52) s₆
-      → s₇ ≡ laid 0 (cdbParts a p o n z k c) s
-  cdb-laid s given e₁ e₂ e₃ e₄ e₅ e₆ e₇ =
-      let p₁ = first-piece s (toBe 8 0x7F000000000000E4 ++ toBe 8 (0x1000000000000 * a)) (length-pair _ _) e₁ zero-le in
-      let p₂ = next-piece (toBe 8 p ++ toBe 8 o) p₁ refl (length-pair p o) e₂ in
-      let p₃ = next-piece (toBe 8 n ++ toBe 8 z) p₂ refl (length-pair n z) e₃ in
-      let p₄ = next-piece (toBe 4 k) p₃ refl (length-toBe 4 k) e₄ in
-      let p₅ = next-piece (zeros 28) p₄ refl refl e₅ in
-      let p₆ = next-piece (part 0 104 c) p₅ refl (length-part 0 104 c given) e₆ in
-      next-piece (zeros 52) p₆ refl refl e₇ .is ∙ ap (λ (d : Bytes). laid 0 d s) cdb-bytes
+use Rattle.rules.proofs.Laying.{first-piece, next-piece}
+use Rattle.cdb.proofs.Beside.{length-pair}
+use Rattle.layout.specs.Parts.{segmentHead, listPart, extensionPart, segmentParts, sizeFor}
+use Rattle.layout.proofs.Numbers.{format-number, own-number}
 
 -- ---- the segment's head
 

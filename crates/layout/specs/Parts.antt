@@ -1,27 +1,11 @@
--- The bytes of a CDB, and the pieces that a segment is written in, one behind the other.
+-- The pieces that a segment is written in, one behind the other.
 use Prim.Native.Nat.{ℕ, _+_, _*_, _-_}
 use mathlib.Core.Bool.{Bool, cond, _||_}
 use mathlib.Core.List.{List, [], _∷_, _++_}
-use lib.ListN.{length, take, drop}
+use lib.ListN.{length, drop}
 use lib.Dec.{ltb}
 use Rattle.rules.specs.Bytes.{Bytes, zeros, toBe}
 use Rattle.rules.specs.Writer.{paired, spelled, descriptor}
-
-unfoldable pub cdbParts : (action partition object size start continuation : ℕ) → (capabilities : Bytes) → Bytes
-cdbParts a p o n s k cs =
-    (0x7F ∷ [])
-    ++ zeros 6
-    ++ (228 ∷ [])
-    ++ toBe 2 a
-    ++ zeros 6
-    ++ toBe 8 p
-    ++ toBe 8 o
-    ++ toBe 8 n
-    ++ toBe 8 s
-    ++ toBe 4 k
-    ++ zeros 28
-    ++ take 104 cs
-    ++ zeros 52
 
 -- bytes 0 to 39 of a segment
 unfoldable pub segmentHead : (action : ℕ) → Bytes

@@ -18,7 +18,8 @@ use Rattle.rules.proofs.Accepted.{Accepted, accepted}
 use Rattle.writer.specs.declared.Plan.{Plan}
 use Rattle.writer.specs.declared.Plan.the-variants.{Length, Refused}
 use Rattle.writer.specs.declared.Written.{Written}
-use Rattle.layout.specs.Parts.{cdbParts, segmentHead, listPart, extensionPart, segmentParts, sizeFor}
+use Rattle.cdb.specs.Parts.{cdbParts}
+use Rattle.layout.specs.Parts.{segmentHead, listPart, extensionPart, segmentParts, sizeFor}
 use Rattle.writer.specs.Planning.{listTests, planned}
 use Rattle.writer.specs.Post.{Wrote}
 use Rattle.layout.proofs.Pieces.{parts-length}
@@ -72,7 +73,7 @@ plan-length q t e = go (isSome (firstOf (listTests q))) e
     go true h = let z : _≡_ {A = ℕ} 0 1 = cc in absurd (omega arith)
     go false h = (refl, cc)
 
--- ---- what `layout` writes is what the book says
+-- ---- what `cdb` and `layout` write is what the book says
 
 segment-parts : (q : Request) → segmentFor q ≡ segmentParts (q .action) (q .listed) (q .offsets) (q .lengths) (q .capabilities)
 unfolding segmentFor segmentParts segmentHead listPart extensionPart extended entries

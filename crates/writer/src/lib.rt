@@ -165,7 +165,7 @@ pub fn write_command(
     if segment.len() < need {
         return answer(17, 0);
     }
-    layout::put_cdb(
+    cdb::put_cdb(
         cdb,
         action as u16,
         partition,

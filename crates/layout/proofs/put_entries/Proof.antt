@@ -4,7 +4,8 @@ use mathlib.Core.Path.{_≡_, refl, _∙_}
 use native.Mathlib.Omega.{arith}
 use lib.ListN.{length}
 use Rattle.rules.specs.Bytes.{laid}
-use Rattle.layout.proofs.Pieces.{firstEntries, pair-laid, entries-none, entries-more, entries-all}
+use Rattle.cdb.proofs.Beside.{pair-laid}
+use Rattle.layout.proofs.Pieces.{firstEntries, entries-none, entries-more, entries-all}
 use Rattle.layout.proofs.put_entries.Statement.{statement}
 use Rattle.layout.proofs.put_entries.Tie as tie
 

@@ -1,9 +1,9 @@
--- `layout::put_pair` meets its contract.
+-- `cdb::put_pair` meets its contract.
 use native.Mathlib.Omega.{arith}
-use Rattle.layout.proofs.Pieces.{pair-laid}
+use Rattle.cdb.proofs.Beside.{pair-laid}
 use borrow.Author.Needs.{needs}
-use Rattle.layout.proofs.put_pair.Statement.{statement}
-use Rattle.layout.proofs.put_pair.Tie as tie
+use Rattle.cdb.proofs.put_pair.Statement.{statement}
+use Rattle.cdb.proofs.put_pair.Tie as tie
 
 put64-requires : tie.Need-put64-requires
 put64-requires c κs = search needs

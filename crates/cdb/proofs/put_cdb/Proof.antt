@@ -1,8 +1,8 @@
--- `layout::put_cdb` meets its contract: the pieces stand one behind the other.
-use Rattle.layout.proofs.Pieces.{cdb-laid}
+-- `cdb::put_cdb` meets its contract: the pieces stand one behind the other.
+use Rattle.cdb.proofs.Pieces.{cdb-laid}
 use borrow.Author.Needs.{needs}
-use Rattle.layout.proofs.put_cdb.Statement.{statement}
-use Rattle.layout.proofs.put_cdb.Tie as tie
+use Rattle.cdb.proofs.put_cdb.Statement.{statement}
+use Rattle.cdb.proofs.put_cdb.Tie as tie
 
 mul-put-pair : tie.Need-mul-put-pair
 mul-put-pair c = search needs
