@@ -1,50 +1,27 @@
--- The searches' first and last steps: the CDB's capability, then the extension's, if there is one; and the command as a whole.
+-- The noting's first and last steps: the CDB's capability, then the extension's, if there is one; and the command as a whole.
 use Prim.Native.Nat.{ℕ, zero, suc, _+_, _/_, _≤_}
 use native.Mathlib.Omega.{arith}
-use denote.Ref.{RefT}
 use mathlib.Core.List.{List, [], _∷_, map}
 use mathlib.Core.Path.{_≡_, refl, ap, sym, subst, _∙_}
-use mathlib.Core.Bool.{Bool, true, false, cond, _&&_}
+use mathlib.Core.Bool.{Bool, true, false, _&&_}
 use lib.ListN.{length, take}
 use Rattle.rules.specs.declared.Record.{Record}
 use Rattle.rules.specs.declared.Range.{Range}
 use Rattle.rules.specs.declared.Part.{Part}
 use Rattle.rules.specs.declared.Spot.{Spot}
 use Rattle.rules.specs.declared.Spot.the-variants.{Absent, At}
-use Rattle.rules.specs.Bytes.{Bytes, part, any, all}
+use Rattle.rules.specs.Bytes.{Bytes, part, all}
 use Rattle.rules.specs.Segment.{placesFrom, entriesFrom}
 use Rattle.rules.specs.Writer.{paired}
 use Rattle.capability.specs.declared.Sought.{Sought}
 use Rattle.header.specs.declared.Parsed.{Parsed}
-use Rattle.admission.specs.declared.Place.{Place}
-use Rattle.admission.specs.declared.Place.the-variants.{Nowhere, InCdb, InOut}
-use Rattle.admission.specs.Places.{Lying, LyingAt, FewAt, Reads, soughtBy, admitsIn, firstFrom, firstIn, piecesFrom, piecesAt, piecesIn, noted, Noted, insideOne, eachInside, someOf, admittedIn, Handed}
+use Rattle.sought.specs.Sought.{Lying, LyingAt, FewAt, Reads, soughtBy}
+use Rattle.admission.specs.Allowed.{piecesFrom, piecesAt, piecesIn, noted, Noted, insideOne, eachInside, someOf, admittedIn}
 use Rattle.admission.proofs.Search.{length-noted, noted-both}
 
--- ---- where the data of list and extension stands, it lies inside
-pub extension-lies : (cdb s : Bytes) (p : Parsed) (d : Part) → Reads cdb s p → p .found .extension ≡ At d → Lying 104 s d
-extension-lies cdb s p d w e = subst (λ (x : Spot). LyingAt 104 s x) e (w .extension)
-
+-- ---- where the list's data stands, it lies inside
 pub list-lies : (cdb s : Bytes) (p : Parsed) (d : Part) → Reads cdb s p → p .found .list ≡ At d → Lying 16 s d
 list-lies cdb s p d w e = subst (λ (x : Spot). LyingAt 16 s x) e (w .list)
-
--- ---- the first place; w is what was made of command and record
-module _ (cdb s : Bytes) (p : Parsed) (on : Record) (g : Range) (w : Sought) (ew : w ≡ soughtBy p on) where
-  of-both : (t : Bool) → t ≡ admitsIn w g (part 80 104 cdb) → t ≡ admitsIn (soughtBy p on) g (part 80 104 cdb)
-  of-both t e = e ∙ ap (λ (x : Sought). admitsIn x g (part 80 104 cdb)) ew
-
-  pub in-cdb : true ≡ admitsIn w g (part 80 104 cdb) → InCdb ≡ firstIn cdb s p on g
-  unfolding firstIn
-  in-cdb e = rw (← of-both true e)
-
-  module _ (e : false ≡ admitsIn w g (part 80 104 cdb)) where
-    pub in-neither : p .found .extension ≡ Absent → Nowhere ≡ firstIn cdb s p on g
-    unfolding firstIn
-    in-neither f = rw (← of-both false e, f)
-
-    pub in-extension : (d : Part) → p .found .extension ≡ At d → (v : Place) → v ≡ firstFrom (admitsIn w g) s d → v ≡ firstIn cdb s p on g
-    unfolding firstIn
-    in-extension d f v i = rw (← of-both false e, f) (i ∙ ap (λ (x : Sought). firstFrom (admitsIn x g) s d) ew)
 
 -- ---- what is noted of the whole command
 module _ (cdb s : Bytes) (p : Parsed) (reads : Reads cdb s p) where
@@ -115,14 +92,3 @@ module _ (cdb s : Bytes) (p : Parsed) (on : Record) (reads : Reads cdb s p) (n :
     pub list-let-in : (d : Part) → p .found .list ≡ At d → (t : Bool) → t ≡ all (insideOne (paired (take n ss) (take n zs))) (entriesFrom (d .size / 16) s (d .at)) → t ≡ admittedIn cdb s p on
     unfolding admittedIn
     list-let-in d e t h = rw (somebody, e) (h ∙ ap (λ (ws : List Range). all (insideOne ws) (entriesFrom (d .size / 16) s (d .at))) there)
-
--- ---- the part handed back
-module _ (P : Place) (cdb out r : RefT (List ℕ)) where
-  pub handed-nothing : P ≡ Nowhere → r .now ≡ [] → r .ptr ≡ (cdb .ptr .0, 0 + cdb .ptr .1) → Handed P cdb out r
-  handed-nothing e b p = record { bytes = rw e b; place = rw e p }
-
-  pub handed-cdb : P ≡ InCdb → r .now ≡ part 80 104 (cdb .now) → r .ptr ≡ (cdb .ptr .0, 80 + cdb .ptr .1) → Handed P cdb out r
-  handed-cdb e b p = record { bytes = rw e b; place = rw e p }
-
-  pub handed-out : (at : ℕ) → P ≡ InOut at → r .now ≡ part at 104 (out .now) → r .ptr ≡ (out .ptr .0, at + out .ptr .1) → Handed P cdb out r
-  handed-out at e b p = record { bytes = rw e b; place = rw e p }

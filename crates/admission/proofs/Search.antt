@@ -1,79 +1,21 @@
--- The searches over the capabilities and over the list's entries, one step at a time.
-use Prim.Native.Nat.{ℕ, zero, suc, _+_, _-_, _*_, _/_, _≤_, _<_}
+-- What is noted of the capabilities, and the search over the list's entries, one step at a time.
+use Prim.Native.Nat.{ℕ, _+_, _-_, _*_, _≤_, _<_}
 use mathlib.Core.Path.{_≡_, refl, ap, sym, _∙_}
-use mathlib.Core.Bool.{Bool, true, false, cond, _&&_, not, and-false}
-use mathlib.Core.List.{List, [], _∷_, _++_, map, append-assoc, append-nil}
-use native.Mathlib.Nat.{not-suc-le-zero, add-sub-cancel-left}
+use mathlib.Core.Bool.{Bool, true, false, cond, _&&_, not}
+use mathlib.Core.List.{List, [], _∷_, _++_, append-assoc, append-nil}
 use native.Mathlib.Omega.{arith}
 use borrow.Author.Tests.{not-true, not-false}
-use lib.ListN.{length, take, drop, set, length-append, length-take, length-drop}
+use lib.ListN.{length, take, drop, set, length-append}
 use Rattle.rules.specs.declared.Range.{Range}
-use Rattle.rules.specs.Bytes.{Bytes, part, all}
-use Rattle.rules.specs.Segment.{placesFrom, entryAt, entriesFrom}
-use Rattle.rules.specs.Capability.{inside}
+use Rattle.rules.specs.Bytes.{Bytes, all}
+use Rattle.rules.specs.Segment.{entryAt, entriesFrom}
 use Rattle.rules.specs.Writer.{paired}
 use Rattle.rules.proofs.Entries.{first-entry, no-entry}
 use Rattle.rules.proofs.Paired.{paired-more}
 use Rattle.capability.specs.declared.Sought.{Sought}
 use Rattle.capability.specs.Terms.{meets, allowance}
-use Rattle.admission.specs.declared.Place.the-variants.{Nowhere, InOut}
-use Rattle.admission.specs.Places.{admitsIn, firstAt, piecesFrom, noted, Noted}
-
--- ---- places
-peel : (left from : ℕ) → 0 < left → placesFrom left from ≡ from ∷ placesFrom (left - 1) (from + 104)
-unfolding placesFrom
-peel zero from h = absurd (not-suc-le-zero h)
-peel (suc n) from h = let e : suc n - 1 ≡ n = omega arith in rw e
-
-none-left : (left from : ℕ) → left ≤ 0 → placesFrom left from ≡ []
-unfolding placesFrom
-none-left zero from h = refl
-none-left (suc n) from h = absurd (not-suc-le-zero h)
-
--- the part of a slice that is a capability
-pub piece : (s : Bytes) (from : ℕ) → take (from + 104 - from) (drop from s) ≡ part from 104 s
-piece s from = rw add-sub-cancel-left
-
-pub piece-length : (s : Bytes) (from : ℕ) → from + 104 ≤ length s → 104 ≤ length (take (from + 104 - from) (drop from s))
-piece-length s from h = rw piece (simp (length-take, length-drop) (omega arith))
-
-module _ (t : Bytes → Bool) (s : Bytes) (start n : ℕ) where
-  -- what is left of the search, from a place on
-  pub record First (from left : ℕ) : Type 0 where
-    pub rest : firstAt t s (placesFrom n start) ≡ firstAt t s (placesFrom left from)
-    pub inside : from + 104 * left ≤ length s
-
-  pub first-begun : start + 104 * n ≤ length s → First start n
-  first-begun l = record { rest = refl; inside = l }
-
-  module _ (from left : ℕ) (i : First from left) (more : 0 < left) (r : Bool) (e : r ≡ t (take (from + 104 - from) (drop from s))) where
-    first-split : firstAt t s (placesFrom n start) ≡ cond r (InOut from) (firstAt t s (placesFrom (left - 1) (from + 104)))
-    unfolding firstAt
-    first-split = i .rest ∙ rw (peel left from more, e, piece s from)
-
-    pub first-hit : r ≡ true → InOut from ≡ firstAt t s (placesFrom n start)
-    first-hit h = sym (first-split ∙ rw h)
-
-    pub first-on : r ≡ false → First (from + 104) (left - 1)
-    first-on h = record { rest = first-split ∙ rw h; inside = omega (arith, i .inside) }
-
-  pub first-none : (from left : ℕ) → First from left → left ≤ 0 → Nowhere ≡ firstAt t s (placesFrom n start)
-  unfolding firstAt
-  first-none from left i h = sym (i .rest ∙ rw (none-left left from h))
-
--- whether a capability admits a range, from the answers of the two tests
-module _ (w : Sought) (g : Range) (k : Bytes) where
-  pub both-pass : (i m : Bool) → i ≡ inside g k → i ≡ true → m ≡ meets w k → m ≡ true → true ≡ admitsIn w g k
-  unfolding admitsIn
-  both-pass i m ei ti em tm = rw (← ei, ti, ← em, tm)
-
-  pub range-outside : (i : Bool) → i ≡ inside g k → i ≡ false → false ≡ admitsIn w g k
-  unfolding admitsIn
-  range-outside i ei ti = rw (← ei, ti) (sym (and-false (meets w k)))
-
-  pub no-match : (m : Bool) → m ≡ meets w k → m ≡ false → false ≡ admitsIn w g k
-  unfolding admitsIn
-  no-match m em tm = rw (← em, tm)
+use Rattle.sought.proofs.Pieces.{peel, none-left, piece}
+use Rattle.admission.specs.Allowed.{piecesFrom, noted, Noted}
 
 -- ---- what is noted
 module _ (w : Sought) where

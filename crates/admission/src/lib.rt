@@ -1,7 +1,6 @@
-// Who is let in: which capability admits a range, handed back where it stands, and whether all of a command's ranges are admitted.
+// Row 11: whether a command is let in, all of its ranges. What its capabilities allow is noted once and asked for each range.
 use capability::Sought;
 use header::Parsed;
-use header::Reading;
 use rules::Part;
 use rules::Range;
 use rules::Record;
@@ -10,75 +9,14 @@ ghost use mathlib.Core.Path.{_≡_};
 ghost use mathlib.Core.List.{[], _∷_};
 ghost use Prim.Native.Nat.{_+_, _<_, _≤_, _/_};
 ghost use lib.ListN.{length, take};
-ghost use Rattle.rules.specs.Bytes.{any, all};
+ghost use Rattle.rules.specs.Bytes.{all};
 ghost use Rattle.rules.specs.Segment.{entriesFrom};
 ghost use Rattle.rules.specs.Writer.{paired};
-ghost use Rattle.rules.specs.Admission.{admitted, question};
-ghost use Rattle.capability.specs.Terms.{insideOf};
+ghost use Rattle.rules.specs.Admission.{admitted};
 ghost use Rattle.header.specs.declared.Reading.the-variants.{Readable};
 ghost use Rattle.header.specs.Reading.{command, readingOf};
-ghost use Rattle.admission.specs.Places.{Reads, Lying, soughtBy, admitsIn, firstFrom, firstIn, piecesFrom, piecesIn, Noted, insideOne, admittedIn, placeOf, Handed};
-
-// Where a capability stands.
-pub enum Place {
-    Nowhere,
-    InCdb,
-    InOut(usize),
-}
-
-// What the capabilities of a command are held against.
-fn sought_by(said: Parsed, on: Record) -> Sought
-    ensures { λ r. ⌜ r ≡ soughtBy said on ⌝ }
-{
-    let verb = said.verb;
-    Sought {
-        verb: verb,
-        partition: said.partition,
-        object: said.object,
-        tag: on.tag,
-        epoch: on.epoch,
-    }
-}
-
-// The first of the extension's capabilities that admits a range. The range is tested first: of several capabilities mostly one
-// has it inside.
-fn first_extension(segment: &[u8], part: Part, by: Sought, g: Range) -> Place
-    requires { ⌜ Lying 104 (now segment) part ⌝ }
-    ensures { λ r. ⌜ r ≡ firstFrom (admitsIn by g) (now (segment .entry)) part ⌝ }
-{
-    let mut from = part.at;
-    let mut untried = part.size / 104;
-    while 0 < untried {
-        let to = from + 104;
-        if capability::is_inside(&segment[from..to], g) {
-            if capability::is_match(&segment[from..to], by) {
-                return Place::InOut(from);
-            }
-        }
-        from = to;
-        untried -= 1;
-    }
-    Place::Nowhere
-}
-
-// The first capability that admits a range, the CDB's before the segment's.
-fn first_place(cdb: &[u8], segment: &[u8], said: Parsed, on: Record, g: Range) -> Place
-    requires { ⌜ Reads (now cdb) (now segment) said ⌝ }
-    ensures { λ r. ⌜ r ≡ firstIn (now (cdb .entry)) (now (segment .entry)) said on g ⌝ }
-{
-    let by = sought_by(said, on);
-    if capability::is_inside(&cdb[80..184], g) {
-        if capability::is_match(&cdb[80..184], by) {
-            return Place::InCdb;
-        }
-    }
-    let found = said.found;
-    let extension = found.extension;
-    match extension {
-        Spot::Absent => Place::Nowhere,
-        Spot::At(part) => first_extension(segment, part, by, g),
-    }
-}
+ghost use Rattle.sought.specs.Sought.{Lying, Reads, soughtBy};
+ghost use Rattle.admission.specs.Allowed.{piecesFrom, piecesIn, Noted, insideOne, admittedIn};
 
 // What a capability allows, noted behind the n that are there if it matches. So each is matched once for all ranges of a list.
 fn note(k: &[u8], by: Sought, starts: &mut [u64], sizes: &mut [u64], n: usize) -> usize
@@ -133,7 +71,7 @@ fn note_all(
     ensures { λ r. ⌜ Noted (soughtBy said on) (piecesIn (now (cdb .entry)) (now (segment .entry)) said) 0
         (now (starts .entry)) (now (sizes .entry)) r (now (starts .exit)) (now (sizes .exit)) ⌝ }
 {
-    let by = sought_by(said, on);
+    let by = sought::sought_by(said, on);
     let own = note(&cdb[80..184], by, starts, sizes, 0);
     let found = said.found;
     let extension = found.extension;
@@ -216,33 +154,4 @@ pub fn is_admitted(cdb: &[u8], out: &[u8], said: Parsed, on: Record) -> bool
 {
     let end = said.segment;
     is_let_in(cdb, &out[0..end], said, on)
-}
-
-// The admission question, for any range: where the first capability stands that admits it.
-pub fn place_that_admits(cdb: &[u8], out: &[u8], on: Record, g: Range) -> Place
-    ensures { λ r. ⌜ r ≡ placeOf (question (command (now (cdb .entry)) (now (out .entry)) on) g) ⌝ }
-{
-    let reading = header::read_command(cdb, out, on);
-    match reading {
-        Reading::Unreadable(_) => Place::Nowhere,
-        Reading::Readable(said) => {
-            let end = said.segment;
-            first_place(cdb, &out[0..end], said, on, g)
-        }
-    }
-}
-
-// The same, as the capability's 104 bytes where they stand. The part is empty where none admits the range.
-pub fn capability_that_admits<'a>(cdb: &'a [u8], out: &'a [u8], on: Record, g: Range) -> &'a [u8]
-    ensures { λ r. ⌜ Handed (placeOf (question (command (now (cdb .entry)) (now (out .entry)) on) g)) (cdb .entry) (out .entry) r ⌝ }
-{
-    let place = place_that_admits(cdb, out, on, g);
-    match place {
-        Place::Nowhere => &cdb[0..0],
-        Place::InCdb => &cdb[80..184],
-        Place::InOut(at) => {
-            let end = at + 104;
-            &out[at..end]
-        }
-    }
 }

@@ -35,9 +35,10 @@ use Rattle.capability.proofs.is_match.Reads as is-match
 use Rattle.capability.proofs.allowance_of.Reads as allowance-of
 use Rattle.capability.proofs.is_allowed.Reads as is-allowed
 use Rattle.capability.proofs.is_inside.Reads as is-inside
+use Rattle.sought.proofs.sought_by.Reads as sought-by
 use Rattle.admission.proofs.is_admitted.Reads as is-admitted
-use Rattle.admission.proofs.place_that_admits.Reads as place-that-admits
-use Rattle.admission.proofs.capability_that_admits.Reads as capability-that-admits
+use Rattle.question.proofs.place_that_admits.Reads as place-that-admits
+use Rattle.question.proofs.capability_that_admits.Reads as capability-that-admits
 use Rattle.decision.proofs.decide.Reads as decide
 use Rattle.object.proofs.grow.Reads as grow
 use Rattle.object.proofs.write_range.Reads as write-range
@@ -166,10 +167,15 @@ one-is-allowed κs a r r′ s s′ e f = e ∙ sym f
 one-is-inside : One is-inside.Post
 one-is-inside κs a r r′ s s′ e f = e ∙ sym f
 
--- ---- `admission`: who is let in
+-- ---- `sought`: what capabilities are held against
+one-sought-by : One sought-by.Post
+one-sought-by κs a r r′ s s′ e f = e ∙ sym f
+
+-- ---- `admission`: row 11
 one-is-admitted : One is-admitted.Post
 one-is-admitted κs a r r′ s s′ e f = e ∙ sym f
 
+-- ---- `question`: the admission question
 one-place-that-admits : One place-that-admits.Post
 one-place-that-admits κs a r r′ s s′ e f = e ∙ sym f
 

@@ -6,7 +6,7 @@ use Rattle.rules.specs.Bytes.{Bytes}
 use Rattle.rules.specs.Numbers.{number}
 use Rattle.rules.specs.Answer.{Answered}
 use Rattle.rules.specs.Writer.{Written}
-use Rattle.admission.specs.declared.Place.{Place}
+use Rattle.question.specs.declared.Place.{Place}
 use Rattle.writer.specs.declared.Written.{Written as Told-by}
 use Rattle.writer.specs.Post.{Wrote}
 use Rattle.engine.specs.Deeds.{whole}

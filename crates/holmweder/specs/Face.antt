@@ -7,8 +7,8 @@ use Rattle.rules.specs.Bytes.{Bytes}
 use Rattle.rules.specs.Numbers.{number}
 use Rattle.rules.specs.Answer.{Answered}
 use Rattle.rules.specs.Writer.{Written}
-use Rattle.admission.specs.declared.Place.{Place}
-use Rattle.admission.specs.declared.Place.the-variants.{Nowhere, InCdb, InOut}
+use Rattle.question.specs.declared.Place.{Place}
+use Rattle.question.specs.declared.Place.the-variants.{Nowhere, InCdb, InOut}
 
 -- the record and a range, as they come in
 abbrev pub recordOf : (partition object length maximum tag epoch : ℕ) → Record

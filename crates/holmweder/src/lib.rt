@@ -1,6 +1,6 @@
 // The C face: the entry points of include/holmweder.h, on numbers and byte slices. None of them asks anything of its caller
 // that the header doesn't say of memory.
-use admission::Place;
+use question::Place;
 use rules::Range;
 use rules::Record;
 ghost use mathlib.Core.Path.{_≡_};
@@ -11,7 +11,7 @@ ghost use Rattle.rules.specs.Admission.{question};
 ghost use Rattle.rules.specs.Answer.{answered};
 ghost use Rattle.rules.specs.Writer.{written};
 ghost use Rattle.header.specs.Reading.{command};
-ghost use Rattle.admission.specs.Places.{placeOf};
+ghost use Rattle.question.specs.Places.{placeOf};
 ghost use Rattle.writer.specs.Planning.{request};
 ghost use Rattle.holmweder.specs.Face.{recordOf, rangeOf, seen, seenOf, Told, wrote};
 
@@ -78,7 +78,7 @@ pub extern "C" fn holmweder_admission(
         tag,
         epoch,
     };
-    let place = admission::place_that_admits(cdb, out, on, Range { start, size });
+    let place = question::place_that_admits(cdb, out, on, Range { start, size });
     match place {
         Place::Nowhere => {
             *offset = 0;

@@ -4,7 +4,7 @@ use native.Mathlib.Omega.{arith}
 use borrow.Author.Tests.{not-true, not-false}
 use lib.ListN.{take}
 use Rattle.rules.specs.Writer.{paired}
-use Rattle.admission.specs.Places.{insideOne}
+use Rattle.admission.specs.Allowed.{insideOne}
 use Rattle.admission.proofs.Search.{Each, each-begun, each-fails, each-on, each-done}
 use Rattle.admission.proofs.all_inside.Statement.{statement}
 use Rattle.admission.proofs.all_inside.Tie as tie

@@ -1,4 +1,5 @@
-use Rattle.admission.proofs.Meaning.{part-ends, part-reads, part-admitted}
+use Rattle.sought.proofs.Meaning.{part-ends, part-reads}
+use Rattle.admission.proofs.Meaning.{part-admitted}
 use borrow.Author.Needs.{needs}
 use Rattle.admission.proofs.is_admitted.Statement.{statement}
 use Rattle.admission.proofs.is_admitted.Tie as tie

@@ -1,7 +1,8 @@
 -- `admission::note_all` meets its contract: the CDB's capability, then the extension's.
 use borrow.Author.Needs.{needs}
 use native.Mathlib.Omega.{arith}
-use Rattle.admission.proofs.Deciding.{extension-lies, cdb-alone, with-extension, room-left}
+use Rattle.sought.proofs.Pieces.{extension-lies}
+use Rattle.admission.proofs.Deciding.{cdb-alone, with-extension, room-left}
 use Rattle.admission.proofs.note_all.Statement.{statement}
 use Rattle.admission.proofs.note_all.Tie as tie
 

@@ -1,7 +1,8 @@
 -- `admission::note_extension` meets its contract: what the capabilities passed allow is noted.
 use borrow.Author.Needs.{needs}
 use native.Mathlib.Omega.{arith}
-use Rattle.admission.proofs.Search.{Noting, noting-begun, noting-on, noting-done, piece-length}
+use Rattle.sought.proofs.Pieces.{piece-length}
+use Rattle.admission.proofs.Search.{Noting, noting-begun, noting-on, noting-done}
 use Rattle.admission.proofs.note_extension.Statement.{statement}
 use Rattle.admission.proofs.note_extension.Tie as tie
 

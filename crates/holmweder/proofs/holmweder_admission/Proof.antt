@@ -1,5 +1,5 @@
 -- `holmweder_admission` meets its contract: the place, in numbers.
-use Rattle.admission.specs.declared.Place.the-variants.{Nowhere, InCdb, InOut}
+use Rattle.question.specs.declared.Place.the-variants.{Nowhere, InCdb, InOut}
 use Rattle.holmweder.proofs.Face.{told-as}
 use borrow.Author.Needs.{needs}
 use Rattle.holmweder.proofs.holmweder_admission.Statement.{statement}

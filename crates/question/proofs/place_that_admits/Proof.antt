@@ -1,9 +1,10 @@
-use Rattle.admission.proofs.Meaning.{part-ends, part-reads, part-question, refuses-question}
+use Rattle.sought.proofs.Meaning.{part-ends, part-reads}
+use Rattle.question.proofs.Meaning.{part-question, refuses-question}
 use mathlib.Core.Path.{sym, _∙_}
 use Rattle.header.proofs.Rows.{unreadable}
 use borrow.Author.Needs.{needs}
-use Rattle.admission.proofs.place_that_admits.Statement.{statement}
-use Rattle.admission.proofs.place_that_admits.Tie as tie
+use Rattle.question.proofs.place_that_admits.Statement.{statement}
+use Rattle.question.proofs.place_that_admits.Tie as tie
 
 read-command-requires : tie.Need-read-command-requires
 read-command-requires c κs = search needs

@@ -1,13 +1,15 @@
--- `admission::first_extension` meets its contract: of the capabilities passed none admits the range.
+-- `question::first_extension` meets its contract: of the capabilities passed none admits the range.
 use borrow.Author.Needs.{needs}
 use mathlib.Core.Path.{refl}
 use mathlib.Core.Bool.{true, false}
 use mathlib.Core.Logic.{⊎-elim}
 use native.Mathlib.Omega.{arith}
-use Rattle.admission.specs.Places.{admitsIn, firstFrom}
-use Rattle.admission.proofs.Search.{First, first-begun, first-hit, first-on, first-none, piece-length, both-pass, range-outside, no-match}
-use Rattle.admission.proofs.first_extension.Statement.{statement}
-use Rattle.admission.proofs.first_extension.Tie as tie
+use Rattle.sought.specs.Sought.{admitsIn}
+use Rattle.sought.proofs.Pieces.{piece-length}
+use Rattle.question.specs.Places.{firstFrom}
+use Rattle.question.proofs.Search.{First, first-begun, first-hit, first-on, first-none, both-pass, range-outside, no-match}
+use Rattle.question.proofs.first_extension.Statement.{statement}
+use Rattle.question.proofs.first_extension.Tie as tie
 
 abbrev Inv-loop : tie.InvT-loop
 Inv-loop segment by g from₀ untried₀ from untried = First (admitsIn by g) segment from₀ untried₀ from untried

@@ -1,11 +1,11 @@
-use Rattle.admission.proofs.Deciding.{handed-nothing, handed-cdb, handed-out}
-use Rattle.admission.proofs.Meaning.{in-cdb-sized, in-out-inside}
+use Rattle.question.proofs.Deciding.{handed-nothing, handed-cdb, handed-out}
+use Rattle.question.proofs.Meaning.{in-cdb-sized, in-out-inside}
 use mathlib.Core.Path.{refl, sym, _∙_}
 use native.Mathlib.Nat.{add-sub-cancel-left}
 use native.Mathlib.Omega.{arith}
 use borrow.Author.Needs.{needs}
-use Rattle.admission.proofs.capability_that_admits.Statement.{statement}
-use Rattle.admission.proofs.capability_that_admits.Tie as tie
+use Rattle.question.proofs.capability_that_admits.Statement.{statement}
+use Rattle.question.proofs.capability_that_admits.Tie as tie
 
 place-that-admits-requires : tie.Need-place-that-admits-requires
 place-that-admits-requires c κs = search needs

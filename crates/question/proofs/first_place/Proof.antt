@@ -1,10 +1,11 @@
--- `admission::first_place` meets its contract.
+-- `question::first_place` meets its contract.
 use borrow.Author.Needs.{needs}
 use mathlib.Core.Logic.{⊎-elim}
-use Rattle.admission.proofs.Search.{both-pass, range-outside, no-match}
-use Rattle.admission.proofs.Deciding.{extension-lies, in-cdb, in-neither, in-extension}
-use Rattle.admission.proofs.first_place.Statement.{statement}
-use Rattle.admission.proofs.first_place.Tie as tie
+use Rattle.sought.proofs.Pieces.{extension-lies}
+use Rattle.question.proofs.Search.{both-pass, range-outside, no-match}
+use Rattle.question.proofs.Deciding.{in-cdb, in-neither, in-extension}
+use Rattle.question.proofs.first_place.Statement.{statement}
+use Rattle.question.proofs.first_place.Tie as tie
 
 sought-by-requires : tie.Need-sought-by-requires
 sought-by-requires c κs = search needs
