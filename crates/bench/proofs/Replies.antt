@@ -1,10 +1,9 @@
 -- The answer to a sound file, and the line that tells it.
-use Prim.Native.Nat.{ℕ, _+_, _-_, _≤_, _<_}
+use Prim.Native.Nat.{_-_, _≤_}
 use mathlib.Core.Path.{_≡_, refl, ap}
 use native.Mathlib.Nat.{add-sub-cancel-left}
 use native.Mathlib.Omega.{arith}
 use lib.ListN.{length, take, drop, length-take, length-drop}
-use borrow.Author.Tests.{lt-ltb, le-ltb}
 use lib.Seq.{take-length, take-at}
 use Rattle.rules.specs.declared.Part.{Part}
 use Rattle.rules.specs.declared.Record.{Record}
@@ -14,13 +13,13 @@ use Rattle.rules.specs.Command.{Command}
 use Rattle.rules.specs.Answer.{answered, Answered}
 use Rattle.header.specs.Reading.{command}
 use Rattle.engine.specs.Deeds.{whole}
-use Rattle.rules.specs.Numbers.{number, sense}
-use Rattle.bench.specs.declared.Sections.{Sections}
-use Rattle.bench.specs.declared.Layout.{Layout}
-use Rattle.bench.specs.declared.Line.{Line}
+use Rattle.sections.specs.declared.Sections.{Sections}
+use Rattle.sections.specs.declared.Layout.{Layout}
+use Rattle.sections.specs.File.{end, layoutOf, bytesOf, recordOf}
+use Rattle.line.specs.declared.Line.{Line}
+use Rattle.line.specs.Told.{lineOf}
 use Rattle.bench.specs.declared.Reply.{Reply}
-use Rattle.bench.specs.File.{end, layoutOf, bytesOf, recordOf}
-use Rattle.bench.specs.Reply.{answerTo, lineOf, replyTo, hexDigit}
+use Rattle.bench.specs.Reply.{answerTo, replyTo}
 
 -- the bytes copied to a buffer's start are those lent
 pub copied : (s z t : Bytes) → t ≡ laid 0 (part 0 (length s) s) z → take (length s) t ≡ s
@@ -43,11 +42,6 @@ pub answer-told : (f : Bytes) (s : Sections) (cdb out on slice : Bytes) (r : Rec
 unfolding answerTo
 answer-told f s cdb out on slice r a e g h k m n = rw (m, e, g, h, k) at n
 
-pub line-told : (a : Answer) (n k c : ℕ) → n ≡ number (a .outcome) → k ≡ sense n .key → c ≡ sense n .code
-    → record { number = n; key = k; code = c; count = a .count; length = a .next .length } ≡ lineOf a
-unfolding lineOf
-line-told a n k c e g h = rw (g, h, e)
-
 pub bad-file : (f : Bytes) → layoutOf f ≡ Layout.Bad → Reply.BadFile ≡ replyTo f
 unfolding replyTo
 bad-file f e = rw e
@@ -55,9 +49,3 @@ bad-file f e = rw e
 pub told : (f : Bytes) (s : Sections) (a : Answer) (l : Line) → layoutOf f ≡ Layout.Sound s → a ≡ answerTo f s → l ≡ lineOf a → Reply.Told l ≡ replyTo f
 unfolding replyTo
 told f s a l e g h = rw (e, h, g)
-
-pub low-digit : (d : ℕ) → d < 10 → 48 + d ≡ hexDigit d
-low-digit d h = rw (lt-ltb _ _ h)
-
-pub high-digit : (d : ℕ) → 10 ≤ d → 55 + d ≡ hexDigit d
-high-digit d h = rw (le-ltb _ _ h)

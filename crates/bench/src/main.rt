@@ -2,113 +2,24 @@
 // `reply_to` makes of the file what is to be printed. No contract can speak of input and output, so only the last functions have any.
 use libc::STDIN_FILENO;
 use libc::STDOUT_FILENO;
+use line::Line;
 use rules::Answer;
 use rules::Part;
 use rules::Record;
+use sections::Layout;
+use sections::Sections;
 ghost use mathlib.Core.Path.{_≡_};
-ghost use Prim.Native.Nat.{_<_, _≤_};
+ghost use Prim.Native.Nat.{_≤_};
 ghost use lib.ListN.{length};
 ghost use Rattle.rules.specs.Bytes.{zeros};
 ghost use Rattle.rules.specs.Answer.{answered};
 ghost use Rattle.header.specs.Reading.{command};
-ghost use Rattle.bench.specs.File.{sectionAt, layoutOf, end, bytesOf, recordOf, Inside};
-ghost use Rattle.bench.specs.Reply.{answerTo, lineOf, replyTo, hexDigit, codeText};
-
-// Where a section's bytes stand, behind its count.
-enum Section {
-    Bad,
-    At(Part),
-}
-
-struct Sections {
-    cdb: Part,
-    out: Part,
-    on: Part,
-    slice: Part,
-}
-
-enum Layout {
-    Bad,
-    Sound(Sections),
-}
-
-// What the program prints of an answer.
-struct Line {
-    number: u32,
-    key: u32,
-    code: u32,
-    count: u64,
-    length: u64,
-}
+ghost use Rattle.sections.specs.File.{end, bytesOf, Inside};
+ghost use Rattle.bench.specs.Reply.{answerTo, replyTo};
 
 enum Reply {
     BadFile,
     Told(Line),
-}
-
-// Counts are compared with what is left of the file, so that no sum can wrap.
-fn section_at(file: &[u8], at: usize, most: usize) -> Section
-    requires { ⌜ at ≤ length (now file) ⌝ }
-    ensures { λ r. ⌜ r ≡ sectionAt (now (file .entry)) at most ⌝ }
-{
-    let left = file.len() - at;
-    if left < 4 {
-        return Section::Bad;
-    }
-    let count = wire::get32(file, at) as usize;
-    if most < count {
-        return Section::Bad;
-    }
-    if left - 4 < count {
-        return Section::Bad;
-    }
-    Section::At(Part {
-        at: at + 4,
-        size: count,
-    })
-}
-
-fn layout_of(file: &[u8]) -> Layout
-    ensures { λ r. ⌜ r ≡ layoutOf (now (file .entry)) ⌝ }
-{
-    let Section::At(cdb) = section_at(file, 0, 1024) else {
-        return Layout::Bad;
-    };
-    let Section::At(out) = section_at(file, cdb.at + cdb.size, 8192) else {
-        return Layout::Bad;
-    };
-    let Section::At(on) = section_at(file, out.at + out.size, 38) else {
-        return Layout::Bad;
-    };
-    let Section::At(slice) = section_at(file, on.at + on.size, 16384) else {
-        return Layout::Bad;
-    };
-    if on.size != 38 {
-        return Layout::Bad;
-    }
-    if slice.at + slice.size != file.len() {
-        return Layout::Bad;
-    }
-    Layout::Sound(Sections {
-        cdb: cdb,
-        out: out,
-        on: on,
-        slice: slice,
-    })
-}
-
-fn record_of(s: &[u8]) -> Record
-    requires { ⌜ length (now s) ≡ 38 ⌝ }
-    ensures { λ r. ⌜ r ≡ recordOf (now (s .entry)) ⌝ }
-{
-    Record {
-        partition: wire::get64(s, 0),
-        object: wire::get64(s, 8),
-        length: wire::get64(s, 16),
-        maximum: wire::get64(s, 24),
-        tag: wire::get32(s, 32),
-        epoch: wire::get16(s, 36),
-    }
 }
 
 // The file is only read, so the engine is lent a copy of the object slice.
@@ -136,7 +47,7 @@ fn answer_to(file: &[u8], sections: Sections) -> Answer
     requires { ⌜ Inside (now file) sections ⌝ }
     ensures { λ r. ⌜ r ≡ answerTo (now (file .entry)) sections ⌝ }
 {
-    let on = record_of(bytes_of(file, sections.on));
+    let on = sections::record_of(bytes_of(file, sections.on));
     carry_out(
         bytes_of(file, sections.cdb),
         bytes_of(file, sections.out),
@@ -145,49 +56,13 @@ fn answer_to(file: &[u8], sections: Sections) -> Answer
     )
 }
 
-fn line_of(answer: Answer) -> Line
-    ensures { λ r. ⌜ r ≡ lineOf answer ⌝ }
-{
-    let outcome = answer.outcome;
-    let next = answer.next;
-    let number = numbers::number_of(outcome);
-    Line {
-        number: number,
-        key: numbers::sense_key(number),
-        code: numbers::sense_code(number),
-        count: answer.count,
-        length: next.length,
-    }
-}
-
 fn reply_to(file: &[u8]) -> Reply
     ensures { λ r. ⌜ r ≡ replyTo (now (file .entry)) ⌝ }
 {
-    let Layout::Sound(sections) = layout_of(file) else {
+    let Layout::Sound(sections) = sections::layout_of(file) else {
         return Reply::BadFile;
     };
-    Reply::Told(line_of(answer_to(file, sections)))
-}
-
-fn hex_digit(d: u32) -> u8
-    requires { ⌜ d < 16 ⌝ }
-    ensures { λ r. ⌜ r ≡ hexDigit d ⌝ }
-{
-    if d < 10 {
-        return b'0' + d as u8;
-    }
-    b'A' - 10 + d as u8
-}
-
-fn code_text(code: u32) -> [u8; 4]
-    ensures { λ r. ⌜ r ≡ codeText code ⌝ }
-{
-    [
-        hex_digit(code / 4096 % 16),
-        hex_digit(code / 256 % 16),
-        hex_digit(code / 16 % 16),
-        hex_digit(code % 16),
-    ]
+    Reply::Told(line::line_of(answer_to(file, sections)))
 }
 
 fn print_line(line: Line) {
@@ -195,7 +70,7 @@ fn print_line(line: Line) {
     io::write_all(STDOUT_FILENO, b" ");
     io::print_decimal(STDOUT_FILENO, line.key as u64);
     io::write_all(STDOUT_FILENO, b" ");
-    io::write_all(STDOUT_FILENO, &code_text(line.code));
+    io::write_all(STDOUT_FILENO, &line::code_text(line.code));
     io::write_all(STDOUT_FILENO, b" ");
     io::print_decimal(STDOUT_FILENO, line.count);
     io::write_all(STDOUT_FILENO, b" ");

@@ -54,6 +54,10 @@ use Rattle.numbers.proofs.number_of.Reads as number-of
 use Rattle.numbers.proofs.sense_key.Reads as sense-key
 use Rattle.numbers.proofs.sense_code.Reads as sense-code
 use Rattle.numbers.proofs.status_of.Reads as status-of
+use Rattle.sections.proofs.layout_of.Reads as layout-of
+use Rattle.sections.proofs.record_of.Reads as record-of
+use Rattle.line.proofs.line_of.Reads as line-of
+use Rattle.line.proofs.code_text.Reads as code-text
 use Rattle.engine.proofs.execute.Reads as execute
 use Rattle.holmweder.proofs.holmweder_execute.Reads as holmweder-execute
 use Rattle.holmweder.proofs.holmweder_admission.Reads as holmweder-admission
@@ -242,6 +246,20 @@ one-sense-code κs a r r′ s s′ e f = e ∙ sym f
 
 one-status-of : One status-of.Post
 one-status-of κs a r r′ s s′ e f = e ∙ sym f
+
+-- ---- `sections`: a call as a file has it
+one-layout-of : One layout-of.Post
+one-layout-of κs a r r′ s s′ e f = e ∙ sym f
+
+one-record-of : One record-of.Post
+one-record-of κs a r r′ s s′ e f = e ∙ sym f
+
+-- ---- `line`: an answer as a line tells it
+one-line-of : One line-of.Post
+one-line-of κs a r r′ s s′ e f = e ∙ sym f
+
+one-code-text : One code-text.Post
+one-code-text κs a r r′ s s′ e f = e ∙ sym f
 
 -- ---- `engine`: the engine
 one-execute : (κs : _) (a : _) (r r′ : _) (s s′ : _)

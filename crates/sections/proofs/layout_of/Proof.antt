@@ -1,13 +1,13 @@
--- `bench::layout_of` meets its contract: each section stands where the one before it ends.
+-- `sections::layout_of` meets its contract: each section stands where the one before it ends.
 use mathlib.Core.Path.{_≡_, sym, _∙_}
 use native.Mathlib.Omega.{arith}
 use Rattle.rules.specs.Bytes.{Bytes}
-use Rattle.bench.specs.declared.Section.{Section}
-use Rattle.bench.specs.File.{sectionAt, end}
-use Rattle.bench.proofs.Layouts.{no-cdb, no-out, no-record, no-slice, other-size, goes-on, sound, inside}
+use Rattle.sections.specs.declared.Section.{Section}
+use Rattle.sections.specs.File.{sectionAt, end}
+use Rattle.sections.proofs.Layouts.{no-cdb, no-out, no-record, no-slice, other-size, goes-on, sound, inside}
 use borrow.Author.Needs.{needs}
-use Rattle.bench.proofs.layout_of.Statement.{statement}
-use Rattle.bench.proofs.layout_of.Tie as tie
+use Rattle.sections.proofs.layout_of.Statement.{statement}
+use Rattle.sections.proofs.layout_of.Tie as tie
 
 -- ---- the sections met, each where the code has it, and from one the one before it
 abbrev file : tie.After-cdb → Bytes

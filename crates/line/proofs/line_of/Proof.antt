@@ -1,7 +1,7 @@
-use Rattle.bench.proofs.Replies.{line-told}
+use Rattle.line.proofs.Lines.{line-told}
 use borrow.Author.Needs.{needs}
-use Rattle.bench.proofs.line_of.Statement.{statement}
-use Rattle.bench.proofs.line_of.Tie as tie
+use Rattle.line.proofs.line_of.Statement.{statement}
+use Rattle.line.proofs.line_of.Tie as tie
 
 number-of-requires : tie.Need-number-of-requires
 number-of-requires c κs = search needs

@@ -1,7 +1,7 @@
-use Rattle.bench.proofs.Replies.{low-digit, high-digit}
+use Rattle.line.proofs.Lines.{low-digit, high-digit}
 use borrow.Author.Needs.{needs}
-use Rattle.bench.proofs.hex_digit.Statement.{statement}
-use Rattle.bench.proofs.hex_digit.Tie as tie
+use Rattle.line.proofs.hex_digit.Statement.{statement}
+use Rattle.line.proofs.hex_digit.Tie as tie
 
 cast-result : tie.Need-cast-result
 cast-result c = search needs

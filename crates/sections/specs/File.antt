@@ -7,9 +7,9 @@ use lib.Dec.{eqb, leb}
 use Rattle.rules.specs.declared.Part.{Part}
 use Rattle.rules.specs.declared.Record.{Record}
 use Rattle.rules.specs.Bytes.{Bytes, part, field}
-use Rattle.bench.specs.declared.Section.{Section}
-use Rattle.bench.specs.declared.Sections.{Sections}
-use Rattle.bench.specs.declared.Layout.{Layout}
+use Rattle.sections.specs.declared.Section.{Section}
+use Rattle.sections.specs.declared.Sections.{Sections}
+use Rattle.sections.specs.declared.Layout.{Layout}
 
 -- The section whose count stands at `at`: all four bytes of it are there, it is at most `most`, and so many bytes follow it.
 unfoldable pub sectionAt : (file : Bytes) → (at most : ℕ) → Section

@@ -9,10 +9,10 @@ use borrow.Author.Tests.{le-leb, lt-leb, leb-true, eq-eqb, ne-eqb, eqb-true}
 use Rattle.rules.specs.declared.Part.{Part}
 use Rattle.rules.specs.Bytes.{Bytes, field}
 use Rattle.rules.proofs.Booleans.{and-true-parts}
-use Rattle.bench.specs.declared.Section.{Section}
-use Rattle.bench.specs.declared.Sections.{Sections}
-use Rattle.bench.specs.declared.Layout.{Layout}
-use Rattle.bench.specs.File.{sectionAt, end, followed, layoutOf, recordOf, Inside}
+use Rattle.sections.specs.declared.Section.{Section}
+use Rattle.sections.specs.declared.Sections.{Sections}
+use Rattle.sections.specs.declared.Layout.{Layout}
+use Rattle.sections.specs.File.{sectionAt, end, followed, layoutOf, recordOf, Inside}
 
 module _ (f : Bytes) (at most : ℕ) (l : at ≤ length f) where
   pub no-count : length f - at < 4 → Section.Bad ≡ sectionAt f at most

@@ -1,7 +1,7 @@
-use Rattle.bench.proofs.Layouts.{no-count, over, ends-early, whole}
+use Rattle.sections.proofs.Layouts.{no-count, over, ends-early, whole}
 use borrow.Author.Needs.{needs}
-use Rattle.bench.proofs.section_at.Statement.{statement}
-use Rattle.bench.proofs.section_at.Tie as tie
+use Rattle.sections.proofs.section_at.Statement.{statement}
+use Rattle.sections.proofs.section_at.Tie as tie
 
 sub-left : tie.Need-sub-left
 sub-left c = search needs

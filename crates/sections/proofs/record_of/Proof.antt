@@ -1,7 +1,7 @@
-use Rattle.bench.proofs.Layouts.{record-read}
+use Rattle.sections.proofs.Layouts.{record-read}
 use borrow.Author.Needs.{needs}
-use Rattle.bench.proofs.record_of.Statement.{statement}
-use Rattle.bench.proofs.record_of.Tie as tie
+use Rattle.sections.proofs.record_of.Statement.{statement}
+use Rattle.sections.proofs.record_of.Tie as tie
 
 get64-requires : tie.Need-get64-requires
 get64-requires c κs = search needs
