@@ -39,6 +39,10 @@ use Rattle.sought.proofs.sought_by.Reads as sought-by
 use Rattle.admission.proofs.is_admitted.Reads as is-admitted
 use Rattle.question.proofs.place_that_admits.Reads as place-that-admits
 use Rattle.question.proofs.capability_that_admits.Reads as capability-that-admits
+use Rattle.entries.proofs.is_list_fault.Reads as is-list-fault
+use Rattle.entries.proofs.starts_beyond_in.Reads as starts-beyond-in
+use Rattle.entries.proofs.reach_more.Reads as reach-more
+use Rattle.entries.proofs.reach_in.Reads as reach-in
 use Rattle.decision.proofs.decide.Reads as decide
 use Rattle.object.proofs.grow.Reads as grow
 use Rattle.object.proofs.write_range.Reads as write-range
@@ -188,6 +192,19 @@ one-capability-that-admits : (κs : _) (a : _) (r r′ : _) (s s′ : _)
     → (r .now ≡ r′ .now)
     × (r .ptr ≡ r′ .ptr)
 one-capability-that-admits κs a r r′ s s′ e f = (e .bytes ∙ sym (f .bytes), e .place ∙ sym (f .place))
+
+-- ---- `entries`: a list's entries where they stand
+one-is-list-fault : One is-list-fault.Post
+one-is-list-fault κs a r r′ s s′ e f = e ∙ sym f
+
+one-starts-beyond-in : One starts-beyond-in.Post
+one-starts-beyond-in κs a r r′ s s′ e f = e ∙ sym f
+
+one-reach-more : One reach-more.Post
+one-reach-more κs a r r′ s s′ e f = e ∙ sym f
+
+one-reach-in : One reach-in.Post
+one-reach-in κs a r r′ s s′ e f = e ∙ sym f
 
 -- ---- `decision`: the decision
 one-decide : One decide.Post

@@ -1,7 +1,8 @@
 -- Rows 12 to 14, verb by verb, as the code tests them.
 use Prim.Native.Nat.{ℕ, _/_, _≤_, _<_}
 use mathlib.Core.Path.{_≡_, sym, ap, _∙_}
-use mathlib.Core.Bool.{Bool, true, false}
+use mathlib.Core.Bool.{Bool, true, false, or-true, and-false}
+use native.Mathlib.Omega.{arith}
 use borrow.Author.Tests.{lt-ltb, le-ltb}
 use Rattle.rules.specs.declared.Record.{Record}
 use Rattle.rules.specs.declared.Part.{Part}
@@ -12,13 +13,38 @@ use Rattle.rules.specs.Bytes.{Bytes}
 use Rattle.rules.specs.Command.{isWrite}
 use Rattle.rules.specs.Ranges.{reach}
 use Rattle.rules.specs.Segment.{entriesFrom}
+use Rattle.entries.specs.declared.Reach.{Reach}
+use Rattle.entries.specs.declared.Reach.the-variants.{Within, Beyond}
+use Rattle.entries.specs.Lists.{faultIn, beyondIn, within}
+use Rattle.entries.proofs.Entrywise.{was-within, was-beyond}
 use Rattle.header.specs.declared.Parsed.{Parsed}
 use Rattle.decision.specs.declared.Decision.{Decision}
 use Rattle.decision.specs.declared.Decision.the-variants.{Refuse}
-use Rattle.decision.specs.declared.Reach.{Reach}
-use Rattle.decision.specs.declared.Reach.the-variants.{Within, Beyond}
-use Rattle.decision.specs.Decisions.{faultIn, faultAt, beyondIn, rangesIn, roomFor, reads, writes, clears, punches, writesTo, clearsTo}
+use Rattle.decision.specs.Decisions.{faultAt, rangesIn, roomFor, reads, writes, clears, punches, writesTo, clearsTo}
 
+-- ---- row 14: the length that is left
+module _ (length maximum slice raised : ℕ) (h : length ≤ slice) (w : Reach) (e : w ≡ within slice raised) where
+  pub no-room : w ≡ Beyond → Beyond ≡ roomFor length maximum slice raised
+  unfolding roomFor
+  no-room q = let l = was-beyond slice raised (sym e ∙ q) in rw (lt-ltb length raised (omega arith), lt-ltb slice raised l, or-true)
+
+  module _ (n : ℕ) (q : w ≡ Within n) where
+    is-n : (raised ≡ n) × (raised ≤ slice)
+    is-n = was-within slice raised n (sym e ∙ q)
+
+    pub above-maximum : length < n → maximum < n → Beyond ≡ roomFor length maximum slice raised
+    unfolding roomFor
+    above-maximum l m = rw (is-n .0, lt-ltb _ _ l, lt-ltb _ _ m)
+
+    pub below-maximum : n ≤ maximum → Within n ≡ roomFor length maximum slice raised
+    unfolding roomFor
+    below-maximum m = let k : n ≤ slice = omega (arith, is-n .0, is-n .1) in rw (is-n .0, le-ltb _ _ m, le-ltb _ _ k, and-false)
+
+    pub not-raised : n ≤ length → Within n ≡ roomFor length maximum slice raised
+    unfolding roomFor
+    not-raised l = rw (is-n .0, le-ltb _ _ l)
+
+-- ---- by the verb
 module _ (s : Bytes) (p : Parsed) where
   module _ (n : ℕ) (r : Bool) (e : r ≡ beyondIn (rangesIn s p) n) where
     pub read-beyond : (input : ℕ) → r ≡ true → Refuse StartsBeyond ≡ reads s p n input

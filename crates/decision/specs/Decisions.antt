@@ -1,12 +1,10 @@
 -- What the decision answers, by the book's rows, and names for its parts over a command that was read.
-use Prim.Native.Nat.{ℕ, _+_, _/_, _≤_, max}
+use Prim.Native.Nat.{ℕ, _/_}
 use mathlib.Core.Path.{_≡_}
 use mathlib.Core.Option.{Option, none, some}
-use mathlib.Core.Bool.{Bool, false, cond, _&&_, _||_, not}
+use mathlib.Core.Bool.{Bool, false, cond, _&&_, _||_}
 use mathlib.Core.List.{List, [], _∷_}
-use lib.Dec.{eqb, ltb}
-use lib.ListN.{length}
-use Rattle.rules.specs.declared.Part.{Part}
+use lib.Dec.{ltb}
 use Rattle.rules.specs.declared.Range.{Range}
 use Rattle.rules.specs.declared.Spot.{Spot}
 use Rattle.rules.specs.declared.Spot.the-variants.{Absent, At}
@@ -14,28 +12,20 @@ use Rattle.rules.specs.declared.Record.{Record}
 use Rattle.rules.specs.declared.Refusal.{Refusal}
 use Rattle.rules.specs.declared.Refusal.the-variants.{ActionUnknown, StartsBeyond, BufferShort, NoRoom}
 use Rattle.rules.specs.declared.Verb.{Verb}
-use Rattle.rules.specs.Bytes.{Bytes, any}
+use Rattle.rules.specs.Bytes.{Bytes}
 use Rattle.rules.specs.Command.{Command, verb, isWrite}
 use Rattle.rules.specs.Reading.{found}
 use Rattle.rules.specs.Rows.{Room, objectUnfit, listWithStart, listFault, notAdmitted, raised, refusal}
-use Rattle.rules.specs.Ranges.{end, total, overlapping, reach}
+use Rattle.rules.specs.Ranges.{reach}
 use Rattle.rules.specs.Segment.{entriesFrom}
+use Rattle.entries.specs.declared.Reach.{Reach}
+use Rattle.entries.specs.declared.Reach.the-variants.{Within, Beyond}
+use Rattle.entries.specs.Lists.{Lists, faultIn, beyondIn}
 use Rattle.header.specs.declared.Parsed.{Parsed}
 use Rattle.header.specs.declared.Reading.the-variants.{Readable}
 use Rattle.header.specs.Reading.{saidBy, readingOf}
 use Rattle.decision.specs.declared.Decision.{Decision}
 use Rattle.decision.specs.declared.Decision.the-variants.{Refuse}
-use Rattle.decision.specs.declared.Reach.{Reach}
-use Rattle.decision.specs.declared.Reach.the-variants.{Within, Beyond}
-
--- the list's data lies in the segment, and has 64 entries at most
-pub record Lists (s : Bytes) (d : Part) : Type 0 where
-  pub inside : d .at + d .size ≤ length s
-  pub few : d .size ≤ 1024
-
--- row 10 of a list: `apart` says that no two entries may share a position
-unfoldable pub faultIn : List Range → (size : ℕ) → (apart : Bool) → Bool
-faultIn gs size apart = not (eqb (total gs) size) || apart && overlapping gs
 
 -- the ranges of a command that was read
 abbrev pub rangesAt : Spot → Bytes → Parsed → List Range
@@ -45,14 +35,6 @@ rangesAt (At d) s p = entriesFrom (d .size / 16) s (d .at)
 unfoldable pub rangesIn : Bytes → Parsed → List Range
 rangesIn s p = rangesAt (p .found .list) s p
 
--- row 12
-unfoldable pub beyondIn : List Range → (length : ℕ) → Bool
-beyondIn gs n = any (λ (g : Range). ltb n (g .start)) gs
-
--- a length that is at or below a limit
-unfoldable pub within : (limit raised : ℕ) → Reach
-within limit n = cond (ltb limit n) Beyond (Within n)
-
 -- row 14: the length that is left, unless it would rise above the maximum or the slice
 unfoldable pub roomFor : (length maximum slice raised : ℕ) → Reach
 roomFor length maximum slice n = cond (ltb length n && (ltb maximum n || ltb slice n)) Beyond (Within n)
@@ -60,10 +42,6 @@ roomFor length maximum slice n = cond (ltb length n && (ltb maximum n || ltb sli
 abbrev pub ListsAt : Bytes → Spot → Type 0
 ListsAt s Absent = Unit {0}
 ListsAt s (At d) = Lists s d
-
--- what one range makes of a length that was reached
-unfoldable pub lifted : (reached : ℕ) → Range → ℕ
-lifted n g = cond (eqb (g .size) 0) n (max n (end g))
 
 -- what is decided of a call: the refusal, or what is to be carried out. Row 3 refuses a command without a verb, so the second line is never reached.
 abbrev pub decided : Option Refusal → Option Verb → Command → Decision

@@ -24,7 +24,8 @@ use Rattle.rules.proofs.Laying.{laid-first}
 use Rattle.rules.proofs.Positions.{reach-old}
 use Rattle.rules.proofs.Write.{grown-length}
 use Rattle.header.specs.declared.Parsed.{Parsed}
-use Rattle.decision.specs.Decisions.{rangesIn, beyondIn}
+use Rattle.entries.specs.Lists.{beyondIn}
+use Rattle.decision.specs.Decisions.{rangesIn}
 use Rattle.decision.proofs.Spots.{list-lies, sole-range, entry-ranges}
 use Rattle.within.proofs.Sole.{gathered-sole}
 use Rattle.lists.proofs.Scattering.{reach-from}

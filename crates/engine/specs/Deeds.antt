@@ -11,7 +11,8 @@ use Rattle.rules.specs.Ranges.{total, reach}
 use Rattle.rules.specs.Answer.{Answered, answered}
 use Rattle.header.specs.declared.Parsed.{Parsed}
 use Rattle.header.specs.Reading.{command}
-use Rattle.decision.specs.Decisions.{ListsAt, rangesIn, beyondIn}
+use Rattle.entries.specs.Lists.{beyondIn}
+use Rattle.decision.specs.Decisions.{ListsAt, rangesIn}
 
 -- what a call tells, and what it leaves in the slice and in Data-In
 abbrev pub whole : Answer → (slice input : Bytes) → Answered

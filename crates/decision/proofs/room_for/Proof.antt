@@ -1,4 +1,4 @@
-use Rattle.decision.proofs.Entrywise.{above-maximum, below-maximum, no-room, not-raised}
+use Rattle.decision.proofs.Verbwise.{above-maximum, below-maximum, no-room, not-raised}
 use borrow.Author.Needs.{needs}
 use Rattle.decision.proofs.room_for.Statement.{statement}
 use Rattle.decision.proofs.room_for.Tie as tie

@@ -1,7 +1,7 @@
 -- The loops over a list's entries: what is left of a question from an entry on.
 use Prim.Native.Nat.{ℕ, zero, suc, _+_, _-_, _*_, _^_, _≤_, _<_, max}
 use mathlib.Core.Path.{_≡_, refl, sym, _∙_}
-use mathlib.Core.Bool.{Bool, true, false, cond, _||_, or-true, and-false}
+use mathlib.Core.Bool.{Bool, true, false, cond, _||_}
 use native.Mathlib.Omega.{arith}
 use native.Mathlib.Nat.{zero-add, add-zero}
 use lib.Dec.{ltb}
@@ -15,9 +15,9 @@ use Rattle.rules.proofs.Entries.{first-entry, no-entry}
 use Rattle.rules.proofs.Positions.{reach-old}
 use Rattle.ranges.specs.declared.Sum.the-variants.{Fits, Over}
 use Rattle.ranges.specs.Sums.{summed}
-use Rattle.decision.specs.declared.Reach.{Reach}
-use Rattle.decision.specs.declared.Reach.the-variants.{Within, Beyond}
-use Rattle.decision.specs.Decisions.{beyondIn, within, lifted, roomFor}
+use Rattle.entries.specs.declared.Reach.{Reach}
+use Rattle.entries.specs.declared.Reach.the-variants.{Within, Beyond}
+use Rattle.entries.specs.Lists.{beyondIn, within, lifted}
 
 -- ---- row 10: the sum
 module _ (s : Bytes) (start n : ℕ) where
@@ -150,25 +150,3 @@ module _ (s : Bytes) (start n reached limit : ℕ) where
   pub reaching-done : (from left top : ℕ) → Reaching from left top → left ≤ 0 → Within top ≡ within limit (reach reached (entriesFrom n s start))
   unfolding reach
   reaching-done from left top i h = rw (i .rest, no-entry s left from h) (within-is limit top (i .below))
-
--- ---- row 14
-module _ (length maximum slice raised : ℕ) (h : length ≤ slice) (w : Reach) (e : w ≡ within slice raised) where
-  pub no-room : w ≡ Beyond → Beyond ≡ roomFor length maximum slice raised
-  unfolding roomFor
-  no-room q = let l = was-beyond slice raised (sym e ∙ q) in rw (lt-ltb length raised (omega arith), lt-ltb slice raised l, or-true)
-
-  module _ (n : ℕ) (q : w ≡ Within n) where
-    is-n : (raised ≡ n) × (raised ≤ slice)
-    is-n = was-within slice raised n (sym e ∙ q)
-
-    pub above-maximum : length < n → maximum < n → Beyond ≡ roomFor length maximum slice raised
-    unfolding roomFor
-    above-maximum l m = rw (is-n .0, lt-ltb _ _ l, lt-ltb _ _ m)
-
-    pub below-maximum : n ≤ maximum → Within n ≡ roomFor length maximum slice raised
-    unfolding roomFor
-    below-maximum m = let k : n ≤ slice = omega (arith, is-n .0, is-n .1) in rw (is-n .0, le-ltb _ _ m, le-ltb _ _ k, and-false)
-
-    pub not-raised : n ≤ length → Within n ≡ roomFor length maximum slice raised
-    unfolding roomFor
-    not-raised l = rw (is-n .0, le-ltb _ _ l)

@@ -1,7 +1,7 @@
-use Rattle.decision.proofs.Entrywise.{few-apart}
+use Rattle.entries.proofs.Entrywise.{few-apart}
 use borrow.Author.Needs.{needs}
-use Rattle.decision.proofs.overlap_in.Statement.{statement}
-use Rattle.decision.proofs.overlap_in.Tie as tie
+use Rattle.entries.proofs.overlap_in.Statement.{statement}
+use Rattle.entries.proofs.overlap_in.Tie as tie
 
 returns : tie.Need-returns
 returns c = few-apart _ _ _ (c .if1 .taken)

@@ -1,9 +1,9 @@
 use borrow.Author.Needs.{needs}
 use native.Mathlib.Omega.{arith}
 use Prim.Native.Nat.{_-_}
-use Rattle.decision.proofs.Loading.{Loaded, loaded-none, loaded-more, loaded-all}
-use Rattle.decision.proofs.load.Statement.{statement}
-use Rattle.decision.proofs.load.Tie as tie
+use Rattle.entries.proofs.Loading.{Loaded, loaded-none, loaded-more, loaded-all}
+use Rattle.entries.proofs.load.Statement.{statement}
+use Rattle.entries.proofs.load.Tie as tie
 
 abbrev Inv-loop : tie.InvT-loop
 Inv-loop s at n offsets₀ lengths₀ i₀ offsets lengths i = Loaded s at n offsets₀ lengths₀ offsets lengths i

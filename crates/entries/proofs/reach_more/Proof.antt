@@ -1,9 +1,9 @@
 use borrow.Author.Needs.{needs}
 use native.Mathlib.Omega.{arith}
-use Rattle.decision.proofs.Entrywise.{lifts-nothing, lifts-past, lifts-none, lifts-to}
+use Rattle.entries.proofs.Entrywise.{lifts-nothing, lifts-past, lifts-none, lifts-to}
 use borrow.Author.Needs.{needs}
-use Rattle.decision.proofs.reach_more.Statement.{statement}
-use Rattle.decision.proofs.reach_more.Tie as tie
+use Rattle.entries.proofs.reach_more.Statement.{statement}
+use Rattle.entries.proofs.reach_more.Tie as tie
 
 returns : tie.Need-returns
 returns c = lifts-nothing _ _ _ (c .before .before .pre) (c .if1 .taken)

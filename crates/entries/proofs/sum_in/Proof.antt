@@ -1,8 +1,8 @@
 use borrow.Author.Needs.{needs}
 use native.Mathlib.Omega.{arith}
-use Rattle.decision.proofs.Entrywise.{Summing, summing-begun, summing-over, summing-on, summing-done}
-use Rattle.decision.proofs.sum_in.Statement.{statement}
-use Rattle.decision.proofs.sum_in.Tie as tie
+use Rattle.entries.proofs.Entrywise.{Summing, summing-begun, summing-over, summing-on, summing-done}
+use Rattle.entries.proofs.sum_in.Statement.{statement}
+use Rattle.entries.proofs.sum_in.Tie as tie
 
 abbrev Inv-loop : tie.InvT-loop
 Inv-loop s at n from₀ left₀ sum₀ from left sum = Summing s at n from left sum

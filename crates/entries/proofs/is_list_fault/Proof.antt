@@ -1,8 +1,8 @@
 use native.Mathlib.Omega.{arith}
-use Rattle.decision.proofs.Spots.{sums-over, sums-else, sums-right, sums-apart}
+use Rattle.entries.proofs.Faults.{sums-over, sums-else, sums-right, sums-apart}
 use borrow.Author.Needs.{needs}
-use Rattle.decision.proofs.is_list_fault.Statement.{statement}
-use Rattle.decision.proofs.is_list_fault.Tie as tie
+use Rattle.entries.proofs.is_list_fault.Statement.{statement}
+use Rattle.entries.proofs.is_list_fault.Tie as tie
 
 sum-in-requires : tie.Need-sum-in-requires
 sum-in-requires c κs = search needs

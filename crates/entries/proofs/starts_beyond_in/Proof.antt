@@ -1,8 +1,8 @@
 use borrow.Author.Needs.{needs}
 use native.Mathlib.Omega.{arith}
-use Rattle.decision.proofs.Entrywise.{Starting, starting-begun, starting-hit, starting-on, starting-none}
-use Rattle.decision.proofs.starts_beyond_in.Statement.{statement}
-use Rattle.decision.proofs.starts_beyond_in.Tie as tie
+use Rattle.entries.proofs.Entrywise.{Starting, starting-begun, starting-hit, starting-on, starting-none}
+use Rattle.entries.proofs.starts_beyond_in.Statement.{statement}
+use Rattle.entries.proofs.starts_beyond_in.Tie as tie
 
 abbrev Inv-loop : tie.InvT-loop
 Inv-loop s logical from₀ left₀ from left = Starting s from₀ left₀ logical from left

@@ -1,0 +1,3 @@
+pub mod Loading
+pub mod Entrywise
+pub mod Faults
