@@ -12,7 +12,7 @@ use Rattle.rules.specs.Bytes.{Bytes, part, zeros, laid}
 use Rattle.rules.specs.Command.{Command}
 use Rattle.rules.specs.Answer.{answered, Answered}
 use Rattle.header.specs.Reading.{command}
-use Rattle.engine.specs.Deeds.{whole}
+use Rattle.engine.specs.Promise.{whole}
 use Rattle.sections.specs.declared.Sections.{Sections}
 use Rattle.sections.specs.declared.Layout.{Layout}
 use Rattle.sections.specs.File.{end, layoutOf, bytesOf, recordOf}

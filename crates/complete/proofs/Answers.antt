@@ -51,6 +51,10 @@ use Rattle.within.proofs.punch.Reads as punch
 use Rattle.within.proofs.gather.Reads as gather
 use Rattle.lists.proofs.gather_list.Reads as gather-list
 use Rattle.lists.proofs.scatter_list.Reads as scatter-list
+use Rattle.deeds.proofs.read.Reads as read
+use Rattle.deeds.proofs.write.Reads as write
+use Rattle.deeds.proofs.clear.Reads as clear
+use Rattle.deeds.proofs.punch.Reads as punch-deed
 use Rattle.cdb.proofs.put_cdb.Reads as put-cdb
 use Rattle.layout.proofs.put_segment.Reads as put-segment
 use Rattle.writer.proofs.write_command.Reads as write-command
@@ -233,6 +237,20 @@ one-gather-list κs a r r′ s s′ e f = (e .0 ∙ sym (f .0), e .1 ∙ sym (f 
 
 one-scatter-list : Left scatter-list.Post (λ κs s. now (s .1 .1 .1 .1 .1 .0))
 one-scatter-list κs a r r′ s s′ e f = e ∙ sym f
+
+-- ---- `deeds`: what each verb does
+one-read : Both read.Post (λ κs s. now (s .1 .1 .1 .1 .0))
+one-read κs a r r′ s s′ e f = (e .0 ∙ sym (f .0), e .1 ∙ sym (f .1))
+
+one-write : Both write.Post (λ κs s. now (s .1 .1 .1 .1 .1 .0))
+one-write κs a r r′ s s′ e f = (e .0 ∙ sym (f .0), e .1 ∙ sym (f .1))
+
+one-clear : Both clear.Post (λ κs s. now (s .1 .1 .1 .0))
+one-clear κs a r r′ s s′ e f = (e .0 ∙ sym (f .0), e .1 ∙ sym (f .1))
+
+-- `one-punch` is of the mover
+one-punch-deed : Both punch-deed.Post (λ κs s. now (s .1 .1 .0))
+one-punch-deed κs a r r′ s s′ e f = (e .0 ∙ sym (f .0), e .1 ∙ sym (f .1))
 
 -- ---- `cdb`: the CDB as a host writes it
 one-put-cdb : Left put-cdb.Post (λ κs s. now (s .0))

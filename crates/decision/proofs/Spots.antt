@@ -6,26 +6,15 @@ use mathlib.Core.List.{List, [], _∷_}
 use lib.Dec.{ltb}
 use Rattle.rules.specs.declared.Part.{Part}
 use Rattle.rules.specs.declared.Range.{Range}
-use Rattle.rules.specs.declared.Spot.{Spot}
 use Rattle.rules.specs.declared.Spot.the-variants.{Absent, At}
 use Rattle.rules.specs.Bytes.{Bytes, any}
 use Rattle.rules.specs.Ranges.{reach}
 use Rattle.rules.specs.Segment.{entriesFrom}
 use Rattle.entries.specs.declared.Reach.{Reach}
-use Rattle.entries.specs.Lists.{Lists, beyondIn, within, lifted}
+use Rattle.entries.specs.Asked.{within, lifted}
 use Rattle.header.specs.declared.Parsed.{Parsed}
-use Rattle.decision.specs.Decisions.{ListsAt, rangesAt, rangesIn}
-
-pub list-lies : (s : Bytes) (x : Spot) (d : Part) → ListsAt s x → x ≡ At d → Lists s d
-list-lies s x d l e = subst (λ (y : Spot). ListsAt s y) e l
-
-pub sole-range : (s : Bytes) (p : Parsed) → p .found .list ≡ Absent → rangesIn s p ≡ record { start = p .start; size = p .size } ∷ []
-unfolding rangesIn
-sole-range s p e = ap (λ (x : Spot). rangesAt x s p) e
-
-pub entry-ranges : (s : Bytes) (p : Parsed) (d : Part) → p .found .list ≡ At d → rangesIn s p ≡ entriesFrom (d .size / 16) s (d .at)
-unfolding rangesIn
-entry-ranges s p d e = ap (λ (x : Spot). rangesAt x s p) e
+use Rattle.header.specs.Ranges.{rangesIn, beyondIn}
+use Rattle.header.proofs.Ranges.{sole-range, entry-ranges}
 
 module _ (s : Bytes) (p : Parsed) where
   -- row 12

@@ -26,14 +26,15 @@ use Rattle.rules.specs.Rows.{Room, objectUnfit, listWithStart, listFault, notAd
 use Rattle.rules.proofs.First.{hit, skip, none-left, ahead, behind}
 use Rattle.rules.proofs.Segment.{sound-found}
 use Rattle.entries.specs.declared.Reach.the-variants.{Within, Beyond}
-use Rattle.entries.specs.Lists.{faultIn, beyondIn}
+use Rattle.entries.specs.Asked.{faultIn}
 use Rattle.header.specs.declared.Parsed.{Parsed}
 use Rattle.header.specs.declared.Reading.the-variants.{Unreadable}
 use Rattle.header.specs.Reading.{saidBy, readingOf}
+use Rattle.header.specs.Ranges.{ListsAt, rangesAt, rangesIn, beyondIn}
 use Rattle.header.proofs.Rows.{Says, says, says-segment, unreadable}
 use Rattle.decision.specs.declared.Decision.{Decision}
 use Rattle.decision.specs.declared.Decision.the-variants.{Refuse}
-use Rattle.decision.specs.Decisions.{ListsAt, faultAt, rangesAt, rangesIn, roomFor, reads, writes, clears, punches, writesTo, clearsTo, decided, decisionOf, Open, LetIn}
+use Rattle.decision.specs.Decisions.{faultAt, roomFor, reads, writes, clears, punches, writesTo, clearsTo, decided, decisionOf, Open, LetIn}
 
 -- a row that refuses
 pub refuses : (c : Command) (m : Room) (w : Refusal) → refusal c m ≡ some w → Refuse w ≡ decisionOf c m

@@ -15,12 +15,13 @@ use Rattle.rules.specs.Ranges.{reach}
 use Rattle.rules.specs.Segment.{entriesFrom}
 use Rattle.entries.specs.declared.Reach.{Reach}
 use Rattle.entries.specs.declared.Reach.the-variants.{Within, Beyond}
-use Rattle.entries.specs.Lists.{faultIn, beyondIn, within}
+use Rattle.entries.specs.Asked.{faultIn, within}
 use Rattle.entries.proofs.Entrywise.{was-within, was-beyond}
 use Rattle.header.specs.declared.Parsed.{Parsed}
+use Rattle.header.specs.Ranges.{rangesIn, beyondIn}
 use Rattle.decision.specs.declared.Decision.{Decision}
 use Rattle.decision.specs.declared.Decision.the-variants.{Refuse}
-use Rattle.decision.specs.Decisions.{faultAt, rangesIn, roomFor, reads, writes, clears, punches, writesTo, clearsTo}
+use Rattle.decision.specs.Decisions.{faultAt, roomFor, reads, writes, clears, punches, writesTo, clearsTo}
 
 -- ---- row 14: the length that is left
 module _ (length maximum slice raised : ℕ) (h : length ≤ slice) (w : Reach) (e : w ≡ within slice raised) where

@@ -20,28 +20,17 @@ use Rattle.rules.specs.Ranges.{reach}
 use Rattle.rules.specs.Segment.{entriesFrom}
 use Rattle.entries.specs.declared.Reach.{Reach}
 use Rattle.entries.specs.declared.Reach.the-variants.{Within, Beyond}
-use Rattle.entries.specs.Lists.{Lists, faultIn, beyondIn}
+use Rattle.entries.specs.Asked.{faultIn}
 use Rattle.header.specs.declared.Parsed.{Parsed}
 use Rattle.header.specs.declared.Reading.the-variants.{Readable}
 use Rattle.header.specs.Reading.{saidBy, readingOf}
+use Rattle.header.specs.Ranges.{rangesIn, beyondIn}
 use Rattle.decision.specs.declared.Decision.{Decision}
 use Rattle.decision.specs.declared.Decision.the-variants.{Refuse}
-
--- the ranges of a command that was read
-abbrev pub rangesAt : Spot → Bytes → Parsed → List Range
-rangesAt Absent s p = record { start = p .start; size = p .size } ∷ []
-rangesAt (At d) s p = entriesFrom (d .size / 16) s (d .at)
-
-unfoldable pub rangesIn : Bytes → Parsed → List Range
-rangesIn s p = rangesAt (p .found .list) s p
 
 -- row 14: the length that is left, unless it would rise above the maximum or the slice
 unfoldable pub roomFor : (length maximum slice raised : ℕ) → Reach
 roomFor length maximum slice n = cond (ltb length n && (ltb maximum n || ltb slice n)) Beyond (Within n)
-
-abbrev pub ListsAt : Bytes → Spot → Type 0
-ListsAt s Absent = Unit {0}
-ListsAt s (At d) = Lists s d
 
 -- what is decided of a call: the refusal, or what is to be carried out. Row 3 refuses a command without a verb, so the second line is never reached.
 abbrev pub decided : Option Refusal → Option Verb → Command → Decision

@@ -15,9 +15,10 @@ ghost use lib.Dec.{eqb};
 ghost use Rattle.rules.specs.Ranges.{reach};
 ghost use Rattle.rules.specs.Command.{isWrite};
 ghost use Rattle.rules.specs.Reading.{present};
-ghost use Rattle.entries.specs.Lists.{beyondIn, within};
+ghost use Rattle.entries.specs.Asked.{within};
 ghost use Rattle.header.specs.Reading.{command};
-ghost use Rattle.decision.specs.Decisions.{rangesIn, faultAt, roomFor, ListsAt, reads, writes, clears, punches, decisionOf, room, Open, LetIn};
+ghost use Rattle.header.specs.Ranges.{ListsAt, rangesIn, beyondIn};
+ghost use Rattle.decision.specs.Decisions.{faultAt, roomFor, reads, writes, clears, punches, decisionOf, room, Open, LetIn};
 
 // What is to be done with a call. WRITE and CLEAR come with the logical length that they leave.
 pub enum Decision {

@@ -30,13 +30,14 @@ use Rattle.rules.proofs.Punch.{begins-within}
 use Rattle.header.specs.declared.Parsed.{Parsed}
 use Rattle.header.specs.declared.Reading.the-variants.{Readable}
 use Rattle.header.specs.Reading.{saidBy}
+use Rattle.header.specs.Ranges.{rangesIn, beyondIn}
 use Rattle.header.proofs.Rows.{read-by}
-use Rattle.entries.specs.Lists.{beyondIn}
 use Rattle.decision.specs.declared.Decision.{Decision}
 use Rattle.decision.specs.declared.Decision.the-variants.{Refuse}
-use Rattle.decision.specs.Decisions.{rangesIn, decided, decisionOf, room, Open}
+use Rattle.decision.specs.Decisions.{decided, decisionOf, room, Open}
 use Rattle.decision.proofs.Table.{start-is, size-is, end-is, ranges-are, part-is, part-ends, part-lists}
-use Rattle.engine.specs.Deeds.{whole, sole, ForRead, ForWrite, ForClear, ForPunch}
+use Rattle.deeds.specs.Deeds.{sole, ForRead, ForWrite, ForClear, ForPunch}
+use Rattle.engine.specs.Promise.{whole}
 
 -- rows 2 to 8 don't refuse what no row refuses
 header-none : (c : Command) (m : Room) → refusal c m ≡ none → firstOf (header c) ≡ none

@@ -7,7 +7,7 @@ use Rattle.rules.specs.Answer.{Answered}
 use Rattle.rules.specs.Session.{Sent, State, Reply, firsts, meets, told, after, replies, Isolation}
 use Rattle.rules.specs.Session as session
 use Rattle.rules.proofs.Isolation.{isolation}
-use Rattle.engine.specs.Deeds.{Executes, whole}
+use Rattle.engine.specs.Promise.{Executes, whole}
 use Rattle.engine.specs.Runs.{state, reply, Run, over, step, RunsIsolated}
 
 -- one step: the promise allows one answer

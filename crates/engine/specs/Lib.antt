@@ -1,2 +1,2 @@
-pub mod Deeds
+pub mod Promise
 pub mod Runs

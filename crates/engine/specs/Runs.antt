@@ -5,7 +5,7 @@ use Rattle.rules.specs.declared.Answer.{Answer}
 use Rattle.rules.specs.declared.Record.{Record}
 use Rattle.rules.specs.Bytes.{Bytes}
 use Rattle.rules.specs.Session.{Sent, State, Reply, firsts, Premise, Holds}
-use Rattle.engine.specs.Deeds.{Executes}
+use Rattle.engine.specs.Promise.{Executes}
 
 abbrev pub state : Record → (slice : Bytes) → State
 state r s = record { on = r; slice = s }

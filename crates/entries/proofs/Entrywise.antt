@@ -15,9 +15,10 @@ use Rattle.rules.proofs.Entries.{first-entry, no-entry}
 use Rattle.rules.proofs.Positions.{reach-old}
 use Rattle.ranges.specs.declared.Sum.the-variants.{Fits, Over}
 use Rattle.ranges.specs.Sums.{summed}
+use Rattle.header.specs.Ranges.{beyondIn}
 use Rattle.entries.specs.declared.Reach.{Reach}
 use Rattle.entries.specs.declared.Reach.the-variants.{Within, Beyond}
-use Rattle.entries.specs.Lists.{beyondIn, within, lifted}
+use Rattle.entries.specs.Asked.{within, lifted}
 
 -- ---- row 10: the sum
 module _ (s : Bytes) (start n : ℕ) where

@@ -11,7 +11,7 @@ use Rattle.rules.specs.Ranges.{total, overlapping}
 use Rattle.ranges.specs.declared.Sum.{Sum}
 use Rattle.ranges.specs.declared.Sum.the-variants.{Fits, Over}
 use Rattle.ranges.specs.Sums.{summed}
-use Rattle.entries.specs.Lists.{faultIn}
+use Rattle.entries.specs.Asked.{faultIn}
 
 sum-over : (t : ℕ) → summed t ≡ Over → 2 ^ 64 ≤ t
 unfolding summed

@@ -10,7 +10,8 @@ ghost use Rattle.rules.specs.Ranges.{total, overlapping, reach};
 ghost use Rattle.rules.specs.Segment.{entriesFrom};
 ghost use Rattle.rules.specs.Writer.{paired};
 ghost use Rattle.ranges.specs.Sums.{summed};
-ghost use Rattle.entries.specs.Lists.{Lists, faultIn, beyondIn, within, lifted};
+ghost use Rattle.header.specs.Ranges.{Lists, beyondIn};
+ghost use Rattle.entries.specs.Asked.{faultIn, within, lifted};
 
 // A length that is reached, if it lies within a limit.
 pub enum Reach {

@@ -9,7 +9,7 @@ use Rattle.rules.specs.Writer.{Written}
 use Rattle.question.specs.declared.Place.{Place}
 use Rattle.writer.specs.declared.Written.{Written as Told-by}
 use Rattle.writer.specs.Post.{Wrote}
-use Rattle.engine.specs.Deeds.{whole}
+use Rattle.engine.specs.Promise.{whole}
 use Rattle.holmweder.specs.Face.{seen, seenOf, lentBy, offsetIn, Told, wrote}
 
 pub seen-as : (a : Answer) (s i : Bytes) (k : ℕ) (due : Answered) → whole a s i ≡ due → k ≡ number (a .outcome)

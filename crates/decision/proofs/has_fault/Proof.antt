@@ -1,5 +1,5 @@
 use Rattle.decision.proofs.Verbwise.{a-list}
-use Rattle.decision.proofs.Spots.{list-lies}
+use Rattle.header.proofs.Ranges.{list-lies}
 use borrow.Author.Needs.{needs}
 use Rattle.decision.proofs.has_fault.Statement.{statement}
 use Rattle.decision.proofs.has_fault.Tie as tie

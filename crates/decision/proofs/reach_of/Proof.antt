@@ -1,4 +1,5 @@
-use Rattle.decision.proofs.Spots.{list-lies, sole-reach, entries-reach}
+use Rattle.header.proofs.Ranges.{list-lies}
+use Rattle.decision.proofs.Spots.{sole-reach, entries-reach}
 use borrow.Author.Needs.{needs}
 use Rattle.decision.proofs.reach_of.Statement.{statement}
 use Rattle.decision.proofs.reach_of.Tie as tie

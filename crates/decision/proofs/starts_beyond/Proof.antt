@@ -1,4 +1,5 @@
-use Rattle.decision.proofs.Spots.{list-lies, sole-beyond, entries-beyond}
+use Rattle.header.proofs.Ranges.{list-lies}
+use Rattle.decision.proofs.Spots.{sole-beyond, entries-beyond}
 use borrow.Author.Needs.{needs}
 use Rattle.decision.proofs.starts_beyond.Statement.{statement}
 use Rattle.decision.proofs.starts_beyond.Tie as tie

@@ -1,8 +1,8 @@
--- `engine::write` meets its contract: the ranges are filled, and the record has its new length.
-use Rattle.engine.proofs.Deeds.{record-told}
+-- `deeds::write` meets its contract: the ranges are filled, and the record has its new length.
+use Rattle.deeds.proofs.Deeds.{record-told}
 use borrow.Author.Needs.{needs}
-use Rattle.engine.proofs.write.Statement.{statement}
-use Rattle.engine.proofs.write.Tie as tie
+use Rattle.deeds.proofs.write.Statement.{statement}
+use Rattle.deeds.proofs.write.Tie as tie
 
 scatter-ranges-requires : tie.Need-scatter-ranges-requires
 scatter-ranges-requires c κs = search needs

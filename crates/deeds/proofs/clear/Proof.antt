@@ -1,8 +1,8 @@
--- `engine::clear` meets its contract: the one range is cleared, and the record has its new length.
-use Rattle.engine.proofs.Deeds.{record-told, clear-asks, cleared}
+-- `deeds::clear` meets its contract: the one range is cleared, and the record has its new length.
+use Rattle.deeds.proofs.Deeds.{record-told, clear-asks, cleared}
 use borrow.Author.Needs.{needs}
-use Rattle.engine.proofs.clear.Statement.{statement}
-use Rattle.engine.proofs.clear.Tie as tie
+use Rattle.deeds.proofs.clear.Statement.{statement}
+use Rattle.deeds.proofs.clear.Tie as tie
 
 sole-range-requires : tie.Need-sole-range-requires
 sole-range-requires c κs = search needs

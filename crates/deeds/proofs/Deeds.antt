@@ -24,12 +24,11 @@ use Rattle.rules.proofs.Laying.{laid-first}
 use Rattle.rules.proofs.Positions.{reach-old}
 use Rattle.rules.proofs.Write.{grown-length}
 use Rattle.header.specs.declared.Parsed.{Parsed}
-use Rattle.entries.specs.Lists.{beyondIn}
-use Rattle.decision.specs.Decisions.{rangesIn}
-use Rattle.decision.proofs.Spots.{list-lies, sole-range, entry-ranges}
+use Rattle.header.specs.Ranges.{rangesIn, beyondIn}
+use Rattle.header.proofs.Ranges.{list-lies, sole-range, entry-ranges}
 use Rattle.within.proofs.Sole.{gathered-sole}
 use Rattle.lists.proofs.Scattering.{reach-from}
-use Rattle.engine.specs.Deeds.{sole, ForRead, ForWrite, ForClear, ForPunch}
+use Rattle.deeds.specs.Deeds.{sole, ForRead, ForWrite, ForClear, ForPunch}
 
 -- ---- READ: what was gathered stands first in Data-In
 abbrev Put : (d before after : Bytes) → (count : ℕ) → Type 0

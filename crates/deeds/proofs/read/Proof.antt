@@ -1,10 +1,10 @@
--- `engine::read` meets its contract: the ranges' bytes are gathered, and 15 says that they are too few.
+-- `deeds::read` meets its contract: the ranges' bytes are gathered, and 15 says that they are too few.
 use mathlib.Core.Path.{_∙_}
 use denote.Ref.{now}
-use Rattle.engine.proofs.Deeds.{read-short, read-full}
+use Rattle.deeds.proofs.Deeds.{read-short, read-full}
 use borrow.Author.Needs.{needs}
-use Rattle.engine.proofs.read.Statement.{statement}
-use Rattle.engine.proofs.read.Tie as tie
+use Rattle.deeds.proofs.read.Statement.{statement}
+use Rattle.deeds.proofs.read.Tie as tie
 
 gather-ranges-requires : tie.Need-gather-ranges-requires
 gather-ranges-requires c κs = search needs

@@ -1,26 +1,13 @@
--- What the engine promises, and what each deed counts on once the decision is taken.
+-- What each deed counts on once the decision is taken.
 use Prim.Native.Nat.{ℕ, _+_, _≤_}
 use mathlib.Core.Path.{_≡_}
 use mathlib.Core.Bool.{false}
 use mathlib.Core.List.{[], _∷_}
-use Rattle.rules.specs.declared.Answer.{Answer}
 use Rattle.rules.specs.declared.Range.{Range}
-use Rattle.rules.specs.declared.Record.{Record}
 use Rattle.rules.specs.Bytes.{Bytes}
 use Rattle.rules.specs.Ranges.{total, reach}
-use Rattle.rules.specs.Answer.{Answered, answered}
 use Rattle.header.specs.declared.Parsed.{Parsed}
-use Rattle.header.specs.Reading.{command}
-use Rattle.entries.specs.Lists.{beyondIn}
-use Rattle.decision.specs.Decisions.{ListsAt, rangesIn}
-
--- what a call tells, and what it leaves in the slice and in Data-In
-abbrev pub whole : Answer → (slice input : Bytes) → Answered
-whole a s i = record { answer = a; slice = s; input = i }
-
--- The engine's promise: what it tells, and what it leaves in the slice and in Data-In, is the book's whole answer.
-abbrev pub Executes : (cdb out : Bytes) → Record → (slice input : Bytes) → Answer → (slice′ input′ : Bytes) → Type 0
-Executes cdb out on s i a s′ i′ = whole a s′ i′ ≡ answered (command cdb out on) s i
+use Rattle.header.specs.Ranges.{ListsAt, rangesIn, beyondIn}
 
 -- the one range of a command without a list, as it was read
 abbrev pub sole : Parsed → Range

@@ -1,9 +1,9 @@
--- `engine::punch` meets its contract: the one range is removed, and the record is shortened by as much.
+-- `deeds::punch` meets its contract: the one range is removed, and the record is shortened by as much.
 use mathlib.Core.Path.{_∙_}
-use Rattle.engine.proofs.Deeds.{punch-asks, was-punched}
+use Rattle.deeds.proofs.Deeds.{punch-asks, was-punched}
 use borrow.Author.Needs.{needs}
-use Rattle.engine.proofs.punch.Statement.{statement}
-use Rattle.engine.proofs.punch.Tie as tie
+use Rattle.deeds.proofs.punch.Statement.{statement}
+use Rattle.deeds.proofs.punch.Tie as tie
 
 sole-range-requires : tie.Need-sole-range-requires
 sole-range-requires c κs = search needs
