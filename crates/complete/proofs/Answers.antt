@@ -51,6 +51,9 @@ use Rattle.within.proofs.punch.Reads as punch
 use Rattle.within.proofs.gather.Reads as gather
 use Rattle.lists.proofs.gather_list.Reads as gather-list
 use Rattle.lists.proofs.scatter_list.Reads as scatter-list
+use Rattle.spread.proofs.sole_range.Reads as sole-range
+use Rattle.spread.proofs.gather_ranges.Reads as gather-ranges
+use Rattle.spread.proofs.scatter_ranges.Reads as scatter-ranges
 use Rattle.deeds.proofs.read.Reads as read
 use Rattle.deeds.proofs.write.Reads as write
 use Rattle.deeds.proofs.clear.Reads as clear
@@ -237,6 +240,16 @@ one-gather-list κs a r r′ s s′ e f = (e .0 ∙ sym (f .0), e .1 ∙ sym (f 
 
 one-scatter-list : Left scatter-list.Post (λ κs s. now (s .1 .1 .1 .1 .1 .0))
 one-scatter-list κs a r r′ s s′ e f = e ∙ sym f
+
+-- ---- `spread`: a command's ranges
+one-sole-range : One sole-range.Post
+one-sole-range κs a r r′ s s′ e f = e ∙ sym f
+
+one-gather-ranges : Both gather-ranges.Post (λ κs s. now (s .1 .1 .1 .1 .0))
+one-gather-ranges κs a r r′ s s′ e f = (e .0 ∙ sym (f .0), e .1 ∙ sym (f .1))
+
+one-scatter-ranges : Left scatter-ranges.Post (λ κs s. now (s .1 .1 .1 .1 .1 .0))
+one-scatter-ranges κs a r r′ s s′ e f = e ∙ sym f
 
 -- ---- `deeds`: what each verb does
 one-read : Both read.Post (λ κs s. now (s .1 .1 .1 .1 .0))

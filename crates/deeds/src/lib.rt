@@ -3,14 +3,11 @@
 use header::Parsed;
 use rules::Answer;
 use rules::Outcome;
-use rules::Part;
-use rules::Range;
 use rules::Record;
-use rules::Spot;
 ghost use mathlib.Core.Path.{_≡_};
 ghost use mathlib.Core.Bool.{cond};
 ghost use mathlib.Core.List.{[], _∷_, _++_};
-ghost use Prim.Native.Nat.{_-_, _/_};
+ghost use Prim.Native.Nat.{_-_};
 ghost use lib.Dec.{ltb};
 ghost use lib.ListN.{length, take, drop};
 ghost use Rattle.rules.specs.Bytes.{zeros};
@@ -18,46 +15,8 @@ ghost use Rattle.rules.specs.Object.{gathered, scattered, grown, punched};
 ghost use Rattle.rules.specs.declared.Outcome.the-variants.{Done, Ended};
 ghost use Rattle.rules.specs.Answer.{answer, lengthened};
 ghost use Rattle.header.specs.Ranges.{rangesIn};
-ghost use Rattle.deeds.specs.Deeds.{sole, ForRead, ForWrite, ForClear, ForPunch};
-
-// The range of a command without a list.
-fn sole_range(said: Parsed) -> Range
-    ensures { λ r. ⌜ r ≡ sole said ⌝ }
-{
-    Range {
-        start: said.start,
-        size: said.size,
-    }
-}
-
-// How many entries a list's data has.
-fn entries_of(part: Part) -> usize
-    ensures { λ r. ⌜ r ≡ part .size / 16 ⌝ }
-{
-    part.size / 16
-}
-
-// The ranges' bytes, from Data-In's start on; the answer is how many they are.
-fn gather_ranges(
-    segment: &[u8],
-    said: Parsed,
-    slice: &[u8],
-    logical: usize,
-    input: &mut [u8],
-) -> usize
-    requires { ⌜ ForRead (now segment) said logical (length (now slice)) (length (now input)) ⌝ }
-    ensures { λ r. ⌜ (let d = gathered (take logical (now (slice .entry))) (rangesIn (now (segment .entry)) said) in
-        (r ≡ length d) × (now (input .exit) ≡ d ++ drop (length d) (now (input .entry)))) ⌝ }
-{
-    let found = said.found;
-    let list = found.list;
-    match list {
-        Spot::Absent => within::gather(slice, logical, sole_range(said), input, 0),
-        Spot::At(part) => {
-            lists::gather_list(segment, part.at, entries_of(part), slice, logical, input)
-        }
-    }
-}
+ghost use Rattle.spread.specs.Spread.{sole, ForRead, ForWrite};
+ghost use Rattle.deeds.specs.Deeds.{ForClear, ForPunch};
 
 // What a command tells that is carried out whole.
 fn done(next: Record, count: u64) -> Answer
@@ -76,7 +35,7 @@ pub fn read(segment: &[u8], said: Parsed, on: Record, slice: &[u8], input: &mut 
         (r ≡ answer (cond (ltb (length d) (said .size)) Ended Done) (length d) on)
         × (now (input .exit) ≡ d ++ drop (length d) (now (input .entry)))) ⌝ }
 {
-    let count = gather_ranges(segment, said, slice, on.length as usize, input);
+    let count = spread::gather_ranges(segment, said, slice, on.length as usize, input);
     let got = count as u64;
     if got < said.size {
         return Answer {
@@ -86,34 +45,6 @@ pub fn read(segment: &[u8], said: Parsed, on: Record, slice: &[u8], input: &mut 
         };
     }
     done(on, got)
-}
-
-// The gap made zero, and the ranges filled from the command data, which stand in Data-Out behind the segment.
-fn scatter_ranges(
-    segment: &[u8],
-    said: Parsed,
-    logical: usize,
-    raised: usize,
-    out: &[u8],
-    slice: &mut [u8],
-)
-    requires { ⌜ ForWrite (now segment) said logical raised (length (now out)) (length (now slice)) ⌝ }
-    ensures { λ _. ⌜ now (slice .exit) ≡ scattered (grown logical raised (now (slice .entry))) (rangesIn (now (segment .entry)) said) (drop (said .segment) (now (out .entry))) ⌝ }
-{
-    let from = said.segment;
-    let found = said.found;
-    let list = found.list;
-    match list {
-        Spot::Absent => {
-            object::write_range(slice, logical, sole_range(said), out, from);
-            return;
-        }
-        Spot::At(part) => {
-            object::grow(slice, logical, raised);
-            lists::scatter_list(segment, part.at, entries_of(part), out, from, slice);
-            return;
-        }
-    }
 }
 
 pub fn write(
@@ -128,7 +59,7 @@ pub fn write(
     ensures { λ r. ⌜ (r ≡ answer Done (said .size) (lengthened on raised))
         × (now (slice .exit) ≡ scattered (grown (on .length) raised (now (slice .entry))) (rangesIn (now (segment .entry)) said) (drop (said .segment) (now (out .entry)))) ⌝ }
 {
-    scatter_ranges(segment, said, on.length as usize, raised, out, slice);
+    spread::scatter_ranges(segment, said, on.length as usize, raised, out, slice);
     done(on.with_length(raised as u64), said.size)
 }
 
@@ -137,7 +68,7 @@ pub fn clear(said: Parsed, on: Record, raised: usize, slice: &mut [u8]) -> Answe
     ensures { λ r. ⌜ (r ≡ answer Done (said .size) (lengthened on raised))
         × (now (slice .exit) ≡ scattered (grown (on .length) raised (now (slice .entry))) (sole said ∷ []) (zeros (said .size))) ⌝ }
 {
-    object::clear_range(slice, on.length as usize, sole_range(said));
+    object::clear_range(slice, on.length as usize, spread::sole_range(said));
     done(on.with_length(raised as u64), said.size)
 }
 
@@ -147,6 +78,6 @@ pub fn punch(said: Parsed, on: Record, slice: &mut [u8]) -> Answer
         (r ≡ answer Done (on .length - length o) (lengthened on (length o)))
         × (now (slice .exit) ≡ o ++ zeros (on .length - length o) ++ drop (on .length) (now (slice .entry)))) ⌝ }
 {
-    let count = within::punch(slice, on.length as usize, sole_range(said)) as u64;
+    let count = within::punch(slice, on.length as usize, spread::sole_range(said)) as u64;
     done(on.shortened(count), count)
 }

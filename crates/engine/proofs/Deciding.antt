@@ -36,7 +36,8 @@ use Rattle.decision.specs.declared.Decision.{Decision}
 use Rattle.decision.specs.declared.Decision.the-variants.{Refuse}
 use Rattle.decision.specs.Decisions.{decided, decisionOf, room, Open}
 use Rattle.decision.proofs.Table.{start-is, size-is, end-is, ranges-are, part-is, part-ends, part-lists}
-use Rattle.deeds.specs.Deeds.{sole, ForRead, ForWrite, ForClear, ForPunch}
+use Rattle.spread.specs.Spread.{sole, ForRead, ForWrite}
+use Rattle.deeds.specs.Deeds.{ForClear, ForPunch}
 use Rattle.engine.specs.Promise.{whole}
 
 -- rows 2 to 8 don't refuse what no row refuses

@@ -1,8 +1,8 @@
--- `deeds::gather_ranges` meets its contract, with a list and without.
-use Rattle.deeds.proofs.Deeds.{sole-asks, sole-read, list-asks, list-begins, list-room, list-read}
+-- `spread::gather_ranges` meets its contract, with a list and without.
+use Rattle.spread.proofs.Spread.{sole-asks, sole-read, list-asks, list-begins, list-room, list-read}
 use borrow.Author.Needs.{needs}
-use Rattle.deeds.proofs.gather_ranges.Statement.{statement}
-use Rattle.deeds.proofs.gather_ranges.Tie as tie
+use Rattle.spread.proofs.gather_ranges.Statement.{statement}
+use Rattle.spread.proofs.gather_ranges.Tie as tie
 
 enum-told : tie.Need-enum-told
 enum-told c = search needs

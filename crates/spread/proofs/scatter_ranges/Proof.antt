@@ -1,9 +1,9 @@
--- `deeds::scatter_ranges` meets its contract, with a list and without.
+-- `spread::scatter_ranges` meets its contract, with a list and without.
 use mathlib.Core.Path.{refl}
-use Rattle.deeds.proofs.Deeds.{write-asks, sole-written, grow-asks, scatter-asks, scatter-reaches, list-written}
+use Rattle.spread.proofs.Spread.{write-asks, sole-written, grow-asks, scatter-asks, scatter-reaches, list-written}
 use borrow.Author.Needs.{needs}
-use Rattle.deeds.proofs.scatter_ranges.Statement.{statement}
-use Rattle.deeds.proofs.scatter_ranges.Tie as tie
+use Rattle.spread.proofs.scatter_ranges.Statement.{statement}
+use Rattle.spread.proofs.scatter_ranges.Tie as tie
 
 enum-told : tie.Need-enum-told
 enum-told c = search needs
