@@ -41,8 +41,8 @@ use Rattle.question.proofs.place_that_admits.Reads as place-that-admits
 use Rattle.question.proofs.capability_that_admits.Reads as capability-that-admits
 use Rattle.entries.proofs.is_list_fault.Reads as is-list-fault
 use Rattle.entries.proofs.starts_beyond_in.Reads as starts-beyond-in
-use Rattle.entries.proofs.reach_more.Reads as reach-more
-use Rattle.entries.proofs.reach_in.Reads as reach-in
+use Rattle.reach.proofs.reach_more.Reads as reach-more
+use Rattle.reach.proofs.reach_in.Reads as reach-in
 use Rattle.decision.proofs.decide.Reads as decide
 use Rattle.object.proofs.grow.Reads as grow
 use Rattle.object.proofs.write_range.Reads as write-range
@@ -207,6 +207,7 @@ one-is-list-fault κs a r r′ s s′ e f = e ∙ sym f
 one-starts-beyond-in : One starts-beyond-in.Post
 one-starts-beyond-in κs a r r′ s s′ e f = e ∙ sym f
 
+-- ---- `reach`: how far ranges reach
 one-reach-more : One reach-more.Post
 one-reach-more κs a r r′ s s′ e f = e ∙ sym f
 

@@ -10,8 +10,8 @@ use Rattle.rules.specs.declared.Spot.the-variants.{Absent, At}
 use Rattle.rules.specs.Bytes.{Bytes, any}
 use Rattle.rules.specs.Ranges.{reach}
 use Rattle.rules.specs.Segment.{entriesFrom}
-use Rattle.entries.specs.declared.Reach.{Reach}
-use Rattle.entries.specs.Asked.{within, lifted}
+use Rattle.reach.specs.declared.Reach.{Reach}
+use Rattle.reach.specs.Reached.{within, lifted}
 use Rattle.header.specs.declared.Parsed.{Parsed}
 use Rattle.header.specs.Ranges.{rangesIn, beyondIn}
 use Rattle.header.proofs.Ranges.{sole-range, entry-ranges}

@@ -25,8 +25,8 @@ use Rattle.rules.specs.Admission.{admitted}
 use Rattle.rules.specs.Rows.{Room, objectUnfit, listWithStart, listFault, notAdmitted, startsBeyond, bufferShort, raised, noRoom, rows, refusal}
 use Rattle.rules.proofs.First.{hit, skip, none-left, ahead, behind}
 use Rattle.rules.proofs.Segment.{sound-found}
-use Rattle.entries.specs.declared.Reach.the-variants.{Within, Beyond}
 use Rattle.entries.specs.Asked.{faultIn}
+use Rattle.reach.specs.declared.Reach.the-variants.{Within, Beyond}
 use Rattle.header.specs.declared.Parsed.{Parsed}
 use Rattle.header.specs.declared.Reading.the-variants.{Unreadable}
 use Rattle.header.specs.Reading.{saidBy, readingOf}

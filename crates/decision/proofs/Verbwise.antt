@@ -13,10 +13,11 @@ use Rattle.rules.specs.Bytes.{Bytes}
 use Rattle.rules.specs.Command.{isWrite}
 use Rattle.rules.specs.Ranges.{reach}
 use Rattle.rules.specs.Segment.{entriesFrom}
-use Rattle.entries.specs.declared.Reach.{Reach}
-use Rattle.entries.specs.declared.Reach.the-variants.{Within, Beyond}
-use Rattle.entries.specs.Asked.{faultIn, within}
-use Rattle.entries.proofs.Entrywise.{was-within, was-beyond}
+use Rattle.entries.specs.Asked.{faultIn}
+use Rattle.reach.specs.declared.Reach.{Reach}
+use Rattle.reach.specs.declared.Reach.the-variants.{Within, Beyond}
+use Rattle.reach.specs.Reached.{within}
+use Rattle.reach.proofs.Reaches.{was-within, was-beyond}
 use Rattle.header.specs.declared.Parsed.{Parsed}
 use Rattle.header.specs.Ranges.{rangesIn, beyondIn}
 use Rattle.decision.specs.declared.Decision.{Decision}

@@ -18,9 +18,9 @@ use Rattle.rules.specs.Reading.{found}
 use Rattle.rules.specs.Rows.{Room, objectUnfit, listWithStart, listFault, notAdmitted, raised, refusal}
 use Rattle.rules.specs.Ranges.{reach}
 use Rattle.rules.specs.Segment.{entriesFrom}
-use Rattle.entries.specs.declared.Reach.{Reach}
-use Rattle.entries.specs.declared.Reach.the-variants.{Within, Beyond}
 use Rattle.entries.specs.Asked.{faultIn}
+use Rattle.reach.specs.declared.Reach.{Reach}
+use Rattle.reach.specs.declared.Reach.the-variants.{Within, Beyond}
 use Rattle.header.specs.declared.Parsed.{Parsed}
 use Rattle.header.specs.declared.Reading.the-variants.{Readable}
 use Rattle.header.specs.Reading.{saidBy, readingOf}

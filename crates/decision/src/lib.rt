@@ -1,8 +1,8 @@
 // The decision: which row of the table refuses a call, or what is to be carried out. It has no side effect: it sees the
 // lengths of what is lent, and none of the bytes of the object or of Data-In.
-use entries::Reach;
 use header::Parsed;
 use header::Reading;
+use reach::Reach;
 use rules::Range;
 use rules::Record;
 use rules::Refusal;
@@ -15,7 +15,7 @@ ghost use lib.Dec.{eqb};
 ghost use Rattle.rules.specs.Ranges.{reach};
 ghost use Rattle.rules.specs.Command.{isWrite};
 ghost use Rattle.rules.specs.Reading.{present};
-ghost use Rattle.entries.specs.Asked.{within};
+ghost use Rattle.reach.specs.Reached.{within};
 ghost use Rattle.header.specs.Reading.{command};
 ghost use Rattle.header.specs.Ranges.{ListsAt, rangesIn, beyondIn};
 ghost use Rattle.decision.specs.Decisions.{faultAt, roomFor, reads, writes, clears, punches, decisionOf, room, Open, LetIn};
@@ -67,7 +67,7 @@ fn reach_of(s: &[u8], said: Parsed, reached: usize, limit: usize) -> Reach
     let found = said.found;
     let list = found.list;
     match list {
-        Spot::Absent => entries::reach_more(
+        Spot::Absent => reach::reach_more(
             reached,
             Range {
                 start: said.start,
@@ -75,7 +75,7 @@ fn reach_of(s: &[u8], said: Parsed, reached: usize, limit: usize) -> Reach
             },
             limit,
         ),
-        Spot::At(part) => entries::reach_in(s, part, reached, limit),
+        Spot::At(part) => reach::reach_in(s, part, reached, limit),
     }
 }
 

@@ -1,24 +1,20 @@
 -- The loops over a list's entries: what is left of a question from an entry on.
-use Prim.Native.Nat.{ℕ, zero, suc, _+_, _-_, _*_, _^_, _≤_, _<_, max}
+use Prim.Native.Nat.{ℕ, zero, suc, _+_, _-_, _*_, _^_, _≤_, _<_}
 use mathlib.Core.Path.{_≡_, refl, sym, _∙_}
-use mathlib.Core.Bool.{Bool, true, false, cond, _||_}
+use mathlib.Core.Bool.{true, false, _||_}
 use native.Mathlib.Omega.{arith}
 use native.Mathlib.Nat.{zero-add, add-zero}
 use lib.Dec.{ltb}
 use lib.ListN.{length}
-use borrow.Author.Tests.{lt-ltb, le-ltb, eq-eqb, ne-eqb, ltb-true, ltb-false}
+use borrow.Author.Tests.{lt-ltb, le-ltb}
 use Rattle.rules.specs.declared.Range.{Range}
 use Rattle.rules.specs.Bytes.{Bytes, any}
-use Rattle.rules.specs.Ranges.{end, total, overlapping, reach}
+use Rattle.rules.specs.Ranges.{total, overlapping}
 use Rattle.rules.specs.Segment.{entryAt, entriesFrom}
 use Rattle.rules.proofs.Entries.{first-entry, no-entry}
-use Rattle.rules.proofs.Positions.{reach-old}
 use Rattle.ranges.specs.declared.Sum.the-variants.{Fits, Over}
 use Rattle.ranges.specs.Sums.{summed}
 use Rattle.header.specs.Ranges.{beyondIn}
-use Rattle.entries.specs.declared.Reach.{Reach}
-use Rattle.entries.specs.declared.Reach.the-variants.{Within, Beyond}
-use Rattle.entries.specs.Asked.{within, lifted}
 
 -- ---- row 10: the sum
 module _ (s : Bytes) (start n : ℕ) where
@@ -78,76 +74,3 @@ module _ (s : Bytes) (start n logical : ℕ) where
   pub starting-none : (from left : ℕ) → Starting from left → left ≤ 0 → false ≡ beyondIn (entriesFrom n s start) logical
   unfolding beyondIn any
   starting-none from left i h = sym (i .rest ∙ rw (no-entry s left from h))
-
--- ---- the reach, with one range more
-module _ (limit n : ℕ) where
-  pub within-is : n ≤ limit → Within n ≡ within limit n
-  unfolding within
-  within-is h = rw (le-ltb _ _ h)
-
-  pub beyond-is : limit < n → Beyond ≡ within limit n
-  unfolding within
-  beyond-is h = rw (lt-ltb _ _ h)
-
-  pub was-within : (k : ℕ) → within limit n ≡ Within k → (n ≡ k) × (n ≤ limit)
-  unfolding within
-  was-within k e = go (ltb limit n) refl e
-    where
-      go : (b : Bool) → ltb limit n ≡ b → cond b Beyond (Within n) ≡ Within k → (n ≡ k) × (n ≤ limit)
-      go true h q = let z : _≡_ {A = ℕ} 0 1 = cc in absurd (omega arith)
-      go false h q = let z : n ≡ k = cc in (z, ltb-false _ _ h)
-
-  pub was-beyond : within limit n ≡ Beyond → limit < n
-  unfolding within
-  was-beyond e = go (ltb limit n) refl e
-    where
-      go : (b : Bool) → ltb limit n ≡ b → cond b Beyond (Within n) ≡ Beyond → limit < n
-      go true h q = ltb-true _ _ h
-      go false h q = let z : _≡_ {A = ℕ} 0 1 = cc in absurd (omega arith)
-
-module _ (limit reached : ℕ) (g : Range) (h : reached ≤ limit) where
-  pub lifts-nothing : g .size ≡ 0 → Within reached ≡ within limit (lifted reached g)
-  unfolding lifted
-  lifts-nothing z = rw (eq-eqb _ _ z) (within-is limit reached h)
-
-  pub lifts-past : (g .size ≡ 0 → ⊥) → limit < end g → Beyond ≡ within limit (lifted reached g)
-  unfolding lifted
-  lifts-past n l = let k : limit < max reached (end g) = omega arith in rw (ne-eqb _ _ n) (beyond-is limit _ k)
-
-  pub lifts-none : (g .size ≡ 0 → ⊥) → end g < reached → Within reached ≡ within limit (lifted reached g)
-  unfolding lifted
-  lifts-none n l = let k : max reached (end g) ≡ reached = omega arith in rw (ne-eqb _ _ n, k) (within-is limit reached h)
-
-  pub lifts-to : (g .size ≡ 0 → ⊥) → reached ≤ end g → end g ≤ limit → Within (end g) ≡ within limit (lifted reached g)
-  unfolding lifted
-  lifts-to n l m = let k : max reached (end g) ≡ end g = omega arith in rw (ne-eqb _ _ n, k) (within-is limit (end g) m)
-
--- ---- over the list
-module _ (s : Bytes) (start n reached limit : ℕ) where
-  pub record Reaching (from left top : ℕ) : Type 0 where
-    pub rest : reach reached (entriesFrom n s start) ≡ reach top (entriesFrom left s from)
-    pub below : top ≤ limit
-    pub inside : from + 16 * left ≤ length s
-
-  pub reaching-begun : reached ≤ limit → start + 16 * n ≤ length s → Reaching start n reached
-  reaching-begun h l = record { rest = refl; below = h; inside = l }
-
-  module _ (from left top : ℕ) (i : Reaching from left top) (more : 0 < left) (g : Range) (k : g ≡ entryAt s from) (w : Reach) (e : w ≡ within limit (lifted top g)) where
-    split-reach : reach reached (entriesFrom n s start) ≡ reach (lifted top g) (entriesFrom (left - 1) s (from + 16))
-    unfolding reach lifted
-    split-reach = i .rest ∙ rw (first-entry s left from more, k)
-
-    pub reaching-past : w ≡ Beyond → Beyond ≡ within limit (reach reached (entriesFrom n s start))
-    reaching-past q =
-        let l = was-beyond limit (lifted top g) (sym e ∙ q) in
-        let m = reach-old (lifted top g) (entriesFrom (left - 1) s (from + 16)) in
-        beyond-is limit _ (omega (arith, split-reach, l, m))
-
-    pub reaching-on : (next : ℕ) → w ≡ Within next → Reaching (from + 16) (left - 1) next
-    reaching-on next q =
-        let l = was-within limit (lifted top g) next (sym e ∙ q) in
-        record { rest = split-reach ∙ rw (l .0); below = omega (arith, l .0, l .1); inside = omega (arith, i .inside) }
-
-  pub reaching-done : (from left top : ℕ) → Reaching from left top → left ≤ 0 → Within top ≡ within limit (reach reached (entriesFrom n s start))
-  unfolding reach
-  reaching-done from left top i h = rw (i .rest, no-entry s left from h) (within-is limit top (i .below))

@@ -1,23 +1,16 @@
-// A list's entries where they stand in the segment: whether their sum or an overlap is a fault, whether one starts beyond a
-// length, and how far they reach. Nothing here knows of a command: a caller says where the list lies.
+// A list's entries where they stand in the segment: whether their sum or an overlap is a fault, and whether one starts beyond
+// a length. Nothing here knows of a command: a caller says where the list lies.
 use ranges::Sum;
 use rules::Part;
-use rules::Range;
 ghost use mathlib.Core.Path.{_≡_};
 ghost use Prim.Native.Nat.{_+_, _*_, _≤_, _/_};
 ghost use lib.ListN.{length, take};
-ghost use Rattle.rules.specs.Ranges.{total, overlapping, reach};
+ghost use Rattle.rules.specs.Ranges.{total, overlapping};
 ghost use Rattle.rules.specs.Segment.{entriesFrom};
 ghost use Rattle.rules.specs.Writer.{paired};
 ghost use Rattle.ranges.specs.Sums.{summed};
 ghost use Rattle.header.specs.Ranges.{Lists, beyondIn};
-ghost use Rattle.entries.specs.Asked.{faultIn, within, lifted};
-
-// A length that is reached, if it lies within a limit.
-pub enum Reach {
-    Within(usize),
-    Beyond,
-}
+ghost use Rattle.entries.specs.Asked.{faultIn};
 
 // The list's entries, taken apart into offsets and lengths. There are 64 at most.
 fn load(s: &[u8], at: usize, n: usize, offsets: &mut [u64], lengths: &mut [u64])
@@ -104,49 +97,4 @@ pub fn starts_beyond_in(s: &[u8], part: Part, logical: u64) -> bool
         left -= 1;
     }
     false
-}
-
-// The reach with one range more. An end is compared by what the limit leaves behind the start, so that no sum can wrap.
-pub fn reach_more(reached: usize, g: Range, limit: usize) -> Reach
-    requires { ⌜ reached ≤ limit ⌝ }
-    ensures { λ r. ⌜ r ≡ within limit (lifted reached g) ⌝ }
-{
-    if g.size == 0 {
-        return Reach::Within(reached);
-    }
-    let top = limit as u64;
-    if top < g.start {
-        return Reach::Beyond;
-    }
-    if top - g.start < g.size {
-        return Reach::Beyond;
-    }
-    let end = (g.start + g.size) as usize;
-    if end < reached {
-        return Reach::Within(reached);
-    }
-    Reach::Within(end)
-}
-
-// How far a list's entries reach, from a length that is reached already.
-pub fn reach_in(s: &[u8], part: Part, reached: usize, limit: usize) -> Reach
-    requires { ⌜ (reached ≤ limit) × Lists (now s) part ⌝ }
-    ensures { λ r. ⌜ r ≡ within limit (reach reached (entriesFrom (part .size / 16) (now (s .entry)) (part .at))) ⌝ }
-{
-    let mut from = part.at;
-    let mut left = part.size / 16;
-    let mut top = reached;
-    while 0 < left {
-        let g = segment::entry_at(s, from);
-        let more = reach_more(top, g, limit);
-        match more {
-            Reach::Beyond => return Reach::Beyond,
-            Reach::Within(next) => {
-                top = next;
-            }
-        }
-        from = from + 16;
-        left -= 1;
-    }
-    Reach::Within(top)
 }

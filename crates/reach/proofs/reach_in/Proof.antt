@@ -1,8 +1,8 @@
 use borrow.Author.Needs.{needs}
 use native.Mathlib.Omega.{arith}
-use Rattle.entries.proofs.Entrywise.{Reaching, reaching-begun, reaching-past, reaching-on, reaching-done}
-use Rattle.entries.proofs.reach_in.Statement.{statement}
-use Rattle.entries.proofs.reach_in.Tie as tie
+use Rattle.reach.proofs.Reaches.{Reaching, reaching-begun, reaching-past, reaching-on, reaching-done}
+use Rattle.reach.proofs.reach_in.Statement.{statement}
+use Rattle.reach.proofs.reach_in.Tie as tie
 
 abbrev Inv-loop : tie.InvT-loop
 Inv-loop s reached limit from₀ left₀ top₀ from left top = Reaching s from₀ left₀ reached limit from left top
