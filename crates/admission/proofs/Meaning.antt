@@ -16,8 +16,9 @@ use Rattle.rules.specs.Segment.{placesFrom}
 use Rattle.rules.specs.Reading.{Held, found, ranges, rangesOf, solo, extension, extensionsOf, capabilities}
 use Rattle.rules.specs.Capability.{inside}
 use Rattle.rules.specs.Admission.{fits, admits, admitting, admitted}
-use Rattle.capability.specs.Terms.{meets, allowance}
-use Rattle.capability.proofs.Terms.{inside-is}
+use Rattle.capability.specs.Terms.{meets}
+use Rattle.allowance.specs.Allowance.{allowance}
+use Rattle.allowance.proofs.Allowance.{inside-is}
 use Rattle.header.specs.declared.Parsed.{Parsed}
 use Rattle.header.specs.declared.Reading.the-variants.{Readable}
 use Rattle.header.specs.Reading.{saidBy, readingOf}

@@ -13,7 +13,8 @@ use Rattle.rules.specs.Writer.{paired}
 use Rattle.rules.proofs.Entries.{first-entry, no-entry}
 use Rattle.rules.proofs.Paired.{paired-more}
 use Rattle.capability.specs.declared.Sought.{Sought}
-use Rattle.capability.specs.Terms.{meets, allowance}
+use Rattle.capability.specs.Terms.{meets}
+use Rattle.allowance.specs.Allowance.{allowance}
 use Rattle.sought.proofs.Pieces.{peel, none-left, piece}
 use Rattle.admission.specs.Allowed.{piecesFrom, noted, Noted}
 

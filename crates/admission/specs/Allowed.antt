@@ -12,7 +12,8 @@ use Rattle.rules.specs.Bytes.{Bytes, part, any, all}
 use Rattle.rules.specs.Segment.{placesFrom, entriesFrom}
 use Rattle.rules.specs.Writer.{paired}
 use Rattle.capability.specs.declared.Sought.{Sought}
-use Rattle.capability.specs.Terms.{meets, allowance, insideOf}
+use Rattle.capability.specs.Terms.{meets}
+use Rattle.allowance.specs.Allowance.{allowance, insideOf}
 use Rattle.header.specs.declared.Parsed.{Parsed}
 use Rattle.sought.specs.Sought.{soughtBy}
 

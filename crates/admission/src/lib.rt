@@ -26,7 +26,7 @@ fn note(k: &[u8], by: Sought, starts: &mut [u64], sizes: &mut [u64], n: usize) -
     if !capability::is_match(k, by) {
         return n;
     }
-    let allowance = capability::allowance_of(k);
+    let allowance = allowance::allowance_of(k);
     starts[n] = allowance.start;
     sizes[n] = allowance.size;
     n + 1
@@ -92,7 +92,7 @@ fn lies_inside(starts: &[u64], sizes: &[u64], n: usize, g: Range) -> bool
             start: starts[i],
             size: sizes[i],
         };
-        if capability::is_allowed(g, allowance) {
+        if allowance::is_allowed(g, allowance) {
             return true;
         }
         i += 1;

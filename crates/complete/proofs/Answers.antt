@@ -32,9 +32,9 @@ use Rattle.walk.proofs.walk_over.Reads as walk-over
 use Rattle.reader.proofs.nth_of.Reads as nth-of
 use Rattle.header.proofs.read_command.Reads as read-command
 use Rattle.capability.proofs.is_match.Reads as is-match
-use Rattle.capability.proofs.allowance_of.Reads as allowance-of
-use Rattle.capability.proofs.is_allowed.Reads as is-allowed
-use Rattle.capability.proofs.is_inside.Reads as is-inside
+use Rattle.allowance.proofs.allowance_of.Reads as allowance-of
+use Rattle.allowance.proofs.is_allowed.Reads as is-allowed
+use Rattle.allowance.proofs.is_inside.Reads as is-inside
 use Rattle.sought.proofs.sought_by.Reads as sought-by
 use Rattle.admission.proofs.is_admitted.Reads as is-admitted
 use Rattle.question.proofs.place_that_admits.Reads as place-that-admits
@@ -169,10 +169,11 @@ one-left-of d p r r′ e f = e ∙ sym f
 one-read-command : One read-command.Post
 one-read-command κs a r r′ s s′ e f = e ∙ sym f
 
--- ---- `capability`: one capability
+-- ---- `capability`: whether one matches
 one-is-match : One is-match.Post
 one-is-match κs a r r′ s s′ e f = e ∙ sym f
 
+-- ---- `allowance`: what one allows
 one-allowance-of : One allowance-of.Post
 one-allowance-of κs a r r′ s s′ e f = e ∙ sym f
 

@@ -29,7 +29,7 @@ fn first_extension(segment: &[u8], part: Part, by: Sought, g: Range) -> Place
     let mut untried = part.size / 104;
     while 0 < untried {
         let to = from + 104;
-        if capability::is_inside(&segment[from..to], g) {
+        if allowance::is_inside(&segment[from..to], g) {
             if capability::is_match(&segment[from..to], by) {
                 return Place::InOut(from);
             }
@@ -46,7 +46,7 @@ fn first_place(cdb: &[u8], segment: &[u8], said: Parsed, on: Record, g: Range) -
     ensures { λ r. ⌜ r ≡ firstIn (now (cdb .entry)) (now (segment .entry)) said on g ⌝ }
 {
     let by = sought::sought_by(said, on);
-    if capability::is_inside(&cdb[80..184], g) {
+    if allowance::is_inside(&cdb[80..184], g) {
         if capability::is_match(&cdb[80..184], by) {
             return Place::InCdb;
         }

@@ -1,8 +1,8 @@
--- `capability::allowance_of` meets its contract.
+-- `allowance::allowance_of` meets its contract.
 use borrow.Author.Needs.{needs}
-use Rattle.capability.proofs.Terms.{allowance-is}
-use Rattle.capability.proofs.allowance_of.Statement.{statement}
-use Rattle.capability.proofs.allowance_of.Tie as tie
+use Rattle.allowance.proofs.Allowance.{allowance-is}
+use Rattle.allowance.proofs.allowance_of.Statement.{statement}
+use Rattle.allowance.proofs.allowance_of.Tie as tie
 
 get64-requires : tie.Need-get64-requires
 get64-requires c κs = search needs

@@ -1,7 +1,7 @@
-use Rattle.capability.proofs.Terms.{starts-past, rest-ends}
+use Rattle.allowance.proofs.Allowance.{starts-past, rest-ends}
 use borrow.Author.Needs.{needs}
-use Rattle.capability.proofs.ends_inside.Statement.{statement}
-use Rattle.capability.proofs.ends_inside.Tie as tie
+use Rattle.allowance.proofs.ends_inside.Statement.{statement}
+use Rattle.allowance.proofs.ends_inside.Tie as tie
 
 sub-skipped : tie.Need-sub-skipped
 sub-skipped c = search needs

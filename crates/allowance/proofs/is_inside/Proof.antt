@@ -1,8 +1,8 @@
--- `capability::is_inside` meets its contract.
+-- `allowance::is_inside` meets its contract.
 use borrow.Author.Needs.{needs}
-use Rattle.capability.proofs.Terms.{inside-told}
-use Rattle.capability.proofs.is_inside.Statement.{statement}
-use Rattle.capability.proofs.is_inside.Tie as tie
+use Rattle.allowance.proofs.Allowance.{inside-told}
+use Rattle.allowance.proofs.is_inside.Statement.{statement}
+use Rattle.allowance.proofs.is_inside.Tie as tie
 
 allowance-of-requires : tie.Need-allowance-of-requires
 allowance-of-requires c κs = search needs

@@ -1,8 +1,8 @@
 use native.Mathlib.Omega.{arith}
-use Rattle.capability.proofs.Terms.{nothing-ends, top-ends}
+use Rattle.allowance.proofs.Allowance.{nothing-ends, top-ends}
 use borrow.Author.Needs.{needs}
-use Rattle.capability.proofs.ends_in_range.Statement.{statement}
-use Rattle.capability.proofs.ends_in_range.Tie as tie
+use Rattle.allowance.proofs.ends_in_range.Statement.{statement}
+use Rattle.allowance.proofs.ends_in_range.Tie as tie
 
 returns : tie.Need-returns
 returns c = nothing-ends (c .before .args .start) (c .before .args .size) (omega arith) (c .if1 .taken)

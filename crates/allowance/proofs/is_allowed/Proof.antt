@@ -1,8 +1,8 @@
--- `capability::is_allowed` meets its contract.
+-- `allowance::is_allowed` meets its contract.
 use borrow.Author.Needs.{needs}
-use Rattle.capability.proofs.Terms.{starts-before, everything, some-of-it}
-use Rattle.capability.proofs.is_allowed.Statement.{statement}
-use Rattle.capability.proofs.is_allowed.Tie as tie
+use Rattle.allowance.proofs.Allowance.{starts-before, everything, some-of-it}
+use Rattle.allowance.proofs.is_allowed.Statement.{statement}
+use Rattle.allowance.proofs.is_allowed.Tie as tie
 
 returns : tie.Need-returns
 returns c = starts-before _ _ (c .if1 .taken)
