@@ -17,8 +17,8 @@ fn put_pair(d: &mut [u8], at: usize, x: u64, y: u64)
     requires { ⌜ at + 16 ≤ length (now d) ⌝ }
     ensures { λ _. ⌜ now (d .exit) ≡ laid at (toBe 8 x ++ toBe 8 y) (now (d .entry)) ⌝ }
 {
-    wire::put64(d, at, x);
-    wire::put64(d, at + 8, y);
+    pen::put64(d, at, x);
+    pen::put64(d, at + 8, y);
 }
 
 pub fn put_cdb(
@@ -38,7 +38,7 @@ pub fn put_cdb(
     put_pair(cdb, 0, OPERATION, ACTION * action as u64);
     put_pair(cdb, 16, partition, object);
     put_pair(cdb, 32, size, start);
-    wire::put32(cdb, 48, continuation);
+    pen::put32(cdb, 48, continuation);
     movers::wipe(cdb, 52, 28);
     movers::copy(capabilities, 0, 104, cdb, 80);
     movers::wipe(cdb, 184, 52);

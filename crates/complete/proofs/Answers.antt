@@ -17,9 +17,9 @@ use Rattle.rules.proofs.Record.shortened.Reads as shortened
 use Rattle.wire.proofs.get16.Reads as get16
 use Rattle.wire.proofs.get32.Reads as get32
 use Rattle.wire.proofs.get64.Reads as get64
-use Rattle.wire.proofs.put16.Reads as put16
-use Rattle.wire.proofs.put32.Reads as put32
-use Rattle.wire.proofs.put64.Reads as put64
+use Rattle.pen.proofs.put16.Reads as put16
+use Rattle.pen.proofs.put32.Reads as put32
+use Rattle.pen.proofs.put64.Reads as put64
 use Rattle.ranges.proofs.sum_of.Reads as sum-of
 use Rattle.ranges.proofs.overlap.Reads as overlap
 use Rattle.movers.proofs.copy.Reads as copy
@@ -96,7 +96,7 @@ one-with-length κs a r r′ s s′ e f = e ∙ sym f
 one-shortened : One shortened.Post
 one-shortened κs a r r′ s s′ e f = e ∙ sym f
 
--- ---- `wire`: numbers on the wire
+-- ---- `wire`: numbers out of byte slices
 one-get16 : One get16.Post
 one-get16 κs a r r′ s s′ e f = e ∙ sym f
 
@@ -106,6 +106,7 @@ one-get32 κs a r r′ s s′ e f = e ∙ sym f
 one-get64 : One get64.Post
 one-get64 κs a r r′ s s′ e f = e ∙ sym f
 
+-- ---- `pen`: numbers into byte slices
 one-put16 : Left put16.Post (λ κs s. now (s .0))
 one-put16 κs a r r′ s s′ e f = e ∙ sym f
 

@@ -21,7 +21,7 @@ fn put_head(segment: &mut [u8], action: u16)
     requires { ⌜ 40 ≤ length (now segment) ⌝ }
     ensures { λ _. ⌜ now (segment .exit) ≡ laid 0 (segmentHead action) (now (segment .entry)) ⌝ }
 {
-    wire::put32(segment, 0, FORMAT + action as u32);
+    pen::put32(segment, 0, FORMAT + action as u32);
     movers::wipe(segment, 4, 36);
 }
 
@@ -35,8 +35,8 @@ fn put_entries(segment: &mut [u8], offsets: &[u64], lengths: &[u64])
     let mut i = 0;
     while i < offsets.len() {
         let at = 48 + 16 * i;
-        wire::put64(segment, at, offsets[i]);
-        wire::put64(segment, at + 8, lengths[i]);
+        pen::put64(segment, at, offsets[i]);
+        pen::put64(segment, at + 8, lengths[i]);
         i += 1;
     }
 }
@@ -50,7 +50,7 @@ fn put_list(segment: &mut [u8], listed: bool, offsets: &[u64], lengths: &[u64]) 
 {
     if listed {
         let size = 16 * offsets.len();
-        wire::put64(segment, 40, LIST + size as u64);
+        pen::put64(segment, 40, LIST + size as u64);
         put_entries(segment, offsets, lengths);
         return 48 + size;
     }
@@ -66,7 +66,7 @@ fn put_extension(segment: &mut [u8], at: usize, capabilities: &[u8])
         return;
     }
     let size = capabilities.len() - 104;
-    wire::put64(segment, at, EXTENSION + size as u64);
+    pen::put64(segment, at, EXTENSION + size as u64);
     movers::copy(capabilities, 104, size, segment, at + 8);
 }
 

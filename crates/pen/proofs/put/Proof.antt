@@ -1,9 +1,9 @@
--- `wire::put` meets its contract: the invariant is `Back`, and the measure the bytes still to come.
+-- `pen::put` meets its contract: the invariant is `Back`, and the measure the bytes still to come.
 use borrow.Author.Needs.{needs}
 use native.Mathlib.Omega.{arith}
-use Rattle.wire.proofs.Back.{Back, back-none, back-step, back-done}
-use Rattle.wire.proofs.put.Statement.{statement}
-use Rattle.wire.proofs.put.Tie as tie
+use Rattle.pen.proofs.Back.{Back, back-none, back-step, back-done}
+use Rattle.pen.proofs.put.Statement.{statement}
+use Rattle.pen.proofs.put.Tie as tie
 
 abbrev Inv-loop : tie.InvT-loop
 Inv-loop d₀ at n x y₀ i₀ d y i = Back d₀ at n x d y i
