@@ -1,8 +1,8 @@
 -- A command with a list, and one without: its ranges, and what the answers about entries say of them.
 use Prim.Native.Nat.{ℕ, _/_}
-use mathlib.Core.Path.{_≡_, ap, sym, subst, _∙_}
+use mathlib.Core.Path.{_≡_, ap, sym, _∙_}
 use mathlib.Core.Bool.{Bool, or-false}
-use mathlib.Core.List.{List, [], _∷_}
+use mathlib.Core.List.{List}
 use lib.Dec.{ltb}
 use Rattle.rules.specs.declared.Part.{Part}
 use Rattle.rules.specs.declared.Range.{Range}

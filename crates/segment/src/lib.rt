@@ -5,7 +5,7 @@ use rules::Part;
 use rules::Range;
 ghost use mathlib.Core.Path.{_≡_};
 ghost use Prim.Native.Nat.{_+_, _≤_, _%_};
-ghost use mathlib.Core.Bool.{Bool, _&&_, not};
+ghost use mathlib.Core.Bool.{_&&_, not};
 ghost use lib.Dec.{eqb};
 ghost use lib.ListN.{length, drop};
 ghost use Rattle.rules.specs.Bytes.{blank};

@@ -3,13 +3,13 @@ use Prim.Native.Nat.{ℕ, _%_, _≤_, _<_}
 use mathlib.Core.Path.{_≡_, refl, ap, sym, _∙_}
 use mathlib.Core.Bool.{Bool, true, false, cond, _||_, not, or-true}
 use mathlib.Core.Option.{Option, none, some}
-use mathlib.Core.List.{List, [], _∷_, _++_, append-assoc}
+use mathlib.Core.List.{List, [], _∷_, _++_}
 use native.Mathlib.Nat.{le-refl}
 use native.Mathlib.Omega.{arith}
-use lib.ListN.{length, take}
+use lib.ListN.{length}
 use lib.Dec.{eqb, ltb}
 use borrow.Author.Tests.{lt-ltb, le-ltb, not-true, not-false}
-use Rattle.rules.specs.Bytes.{Bytes, zeros, toBe, laid}
+use Rattle.rules.specs.Bytes.{Bytes, laid}
 use Rattle.rules.specs.Tests.{Test, test, firstOf, isSome}
 use Rattle.rules.specs.Command.{verbOf}
 use Rattle.rules.specs.Writer.{Request, entries, extended, lengthFor, segmentFor, cdbFor, refusals, writes, written}

@@ -4,7 +4,6 @@ use ranges::Sum;
 ghost use mathlib.Core.Path.{_≡_};
 ghost use mathlib.Core.Bool.{true, _||_, not};
 ghost use Prim.Native.Nat.{ℕ, _%_, _≤_};
-ghost use lib.ListN.{length};
 ghost use lib.Dec.{eqb, ltb};
 ghost use Rattle.rules.specs.Bytes.{Bytes};
 ghost use Rattle.rules.specs.Tests.{isSome};

@@ -1,6 +1,5 @@
 -- `admission::is_let_in` meets its contract: nobody matches, or each range lies inside what somebody allows.
 use borrow.Author.Needs.{needs}
-use native.Mathlib.Omega.{arith}
 use Rattle.admission.proofs.Deciding.{list-lies, noted-fits, nobody, sole-let-in, list-let-in}
 use Rattle.admission.proofs.is_let_in.Statement.{statement}
 use Rattle.admission.proofs.is_let_in.Tie as tie
