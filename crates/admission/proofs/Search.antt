@@ -10,7 +10,7 @@ use Rattle.rules.specs.declared.Range.{Range}
 use Rattle.rules.specs.Bytes.{Bytes, all}
 use Rattle.rules.specs.Segment.{entryAt, entriesFrom}
 use Rattle.rules.specs.Writer.{paired}
-use Rattle.rules.proofs.Entries.{first-entry, no-entry}
+use Rattle.header.proofs.Entries.{Rest, rest-split, rest-on, rest-none}
 use Rattle.rules.proofs.Paired.{paired-more}
 use Rattle.capability.specs.declared.Sought.{Sought}
 use Rattle.capability.specs.Terms.{meets}
@@ -101,24 +101,20 @@ module _ (w : Sought) where
 
 -- ---- entries
 module _ (f : Range → Bool) (s : Bytes) (start n : ℕ) where
-  pub record Each (from left : ℕ) : Type 0 where
-    pub rest : all f (entriesFrom n s start) ≡ all f (entriesFrom left s from)
-    pub inside : from + 16 * left ≤ length s
-
-  pub each-begun : start + 16 * n ≤ length s → Each start n
-  each-begun l = record { rest = refl; inside = l }
+  abbrev pub Each : (from left : ℕ) → Type 0
+  Each from left = Rest (λ (u : Unit {0}) (gs : List Range). all f gs) s start n tt from left tt
 
   module _ (from left : ℕ) (i : Each from left) (more : 0 < left) (g : Range) (k : g ≡ entryAt s from) (r : Bool) (e : r ≡ f g) where
     each-split : all f (entriesFrom n s start) ≡ (r && all f (entriesFrom (left - 1) s (from + 16)))
     unfolding all
-    each-split = i .rest ∙ rw (first-entry s left from more, e, k)
+    each-split = rest-split _ s start n tt from left tt i more g k ∙ rw e
 
     pub each-fails : r ≡ false → false ≡ all f (entriesFrom n s start)
     each-fails h = sym (each-split ∙ rw h)
 
     pub each-on : r ≡ true → Each (from + 16) (left - 1)
-    each-on h = record { rest = each-split ∙ rw h; inside = omega (arith, i .inside) }
+    each-on h = rest-on _ s start n tt from left tt i more tt (each-split ∙ rw h)
 
   pub each-done : (from left : ℕ) → Each from left → left ≤ 0 → true ≡ all f (entriesFrom n s start)
   unfolding all
-  each-done from left i h = sym (i .rest ∙ rw (no-entry s left from h))
+  each-done from left i h = sym (rest-none _ s start n tt from left tt i h)

@@ -16,7 +16,7 @@ use Rattle.rules.specs.Object.{gathered}
 use Rattle.rules.proofs.Booleans.{or-false-parts}
 use Rattle.rules.proofs.Lists.{laid-length}
 use Rattle.within.proofs.Within.{part-count}
-use Rattle.lists.proofs.Entries.{entries-more}
+use Rattle.rules.proofs.Entries.{first-entry}
 
 -- Of d, `done` bytes stand in the input i, which was i₀, and `rest` is to come.
 pub record Putting (d i₀ i : Bytes) (done : ℕ) (rest : Bytes) : Type 0 where
@@ -85,7 +85,7 @@ module _ (n : ℕ) (slice : Bytes) (fits : n ≤ length slice) (s : Bytes) where
   module _ (gs : List Range) (i₀ i : Bytes) (place left done : ℕ) (g : Range) (more : 0 < left) (e : g ≡ entryAt s place)
       (k : Gathering (take n slice) gs i₀ s i place left done) where
     opened : entriesFrom left s place ≡ g ∷ entriesFrom (left - 1) s (place + 16)
-    opened = entries-more s place left g more e
+    opened = rw e (first-entry s left place more)
 
     begins : (ltb n (g .start) ≡ false) × (any (λ (h : Range). ltb n (h .start)) (entriesFrom (left - 1) s (place + 16)) ≡ false)
     unfolding any

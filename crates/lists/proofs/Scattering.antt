@@ -12,7 +12,7 @@ use Rattle.rules.specs.Ranges.{total, reach}
 use Rattle.rules.specs.Segment.{entryAt, entriesFrom}
 use Rattle.rules.specs.Object.{scattered}
 use Rattle.rules.proofs.Positions.{Inside, inside-ends, inside-later, reach-above, reach-least}
-use Rattle.lists.proofs.Entries.{entries-more}
+use Rattle.rules.proofs.Entries.{first-entry}
 
 -- of the entries that stand in s, `left` from `place` on are still to come, and d's bytes from `next` on are for them
 pub record Scattering (o₀ : Bytes) (gs : List Range) (from : ℕ) (d s o : Bytes) (place left next : ℕ) : Type 0 where
@@ -43,7 +43,7 @@ module _ (o₀ : Bytes) (from : ℕ) (d s : Bytes) where
   module _ (gs : List Range) (o : Bytes) (place left next : ℕ) (g : Range) (more : 0 < left) (e : g ≡ entryAt s place)
       (k : Scattering o₀ gs from d s o place left next) where
     opened : entriesFrom left s place ≡ g ∷ entriesFrom (left - 1) s (place + 16)
-    opened = entries-more s place left g more e
+    opened = rw e (first-entry s left place more)
 
     within-both : Inside (length o₀) (g ∷ entriesFrom (left - 1) s (place + 16))
     within-both = rw opened at (k .within)

@@ -10,7 +10,7 @@ use Rattle.rules.specs.declared.Range.{Range}
 use Rattle.rules.specs.Bytes.{Bytes}
 use Rattle.rules.specs.Ranges.{end, reach}
 use Rattle.rules.specs.Segment.{entryAt, entriesFrom}
-use Rattle.rules.proofs.Entries.{first-entry, no-entry}
+use Rattle.header.proofs.Entries.{Rest, rest-begun, rest-split, rest-on, rest-none}
 use Rattle.rules.proofs.Positions.{reach-old}
 use Rattle.reach.specs.declared.Reach.{Reach}
 use Rattle.reach.specs.declared.Reach.the-variants.{Within, Beyond}
@@ -62,17 +62,16 @@ module _ (limit reached : ℕ) (g : Range) (h : reached ≤ limit) where
 -- ---- over the list
 module _ (s : Bytes) (start n reached limit : ℕ) where
   pub record Reaching (from left top : ℕ) : Type 0 where
-    pub rest : reach reached (entriesFrom n s start) ≡ reach top (entriesFrom left s from)
+    pub over : Rest reach s start n reached from left top
     pub below : top ≤ limit
-    pub inside : from + 16 * left ≤ length s
 
   pub reaching-begun : reached ≤ limit → start + 16 * n ≤ length s → Reaching start n reached
-  reaching-begun h l = record { rest = refl; below = h; inside = l }
+  reaching-begun h l = record { over = rest-begun reach s start n reached l; below = h }
 
   module _ (from left top : ℕ) (i : Reaching from left top) (more : 0 < left) (g : Range) (k : g ≡ entryAt s from) (w : Reach) (e : w ≡ within limit (lifted top g)) where
     split-reach : reach reached (entriesFrom n s start) ≡ reach (lifted top g) (entriesFrom (left - 1) s (from + 16))
     unfolding reach lifted
-    split-reach = i .rest ∙ rw (first-entry s left from more, k)
+    split-reach = rest-split reach s start n reached from left top (i .over) more g k
 
     pub reaching-past : w ≡ Beyond → Beyond ≡ within limit (reach reached (entriesFrom n s start))
     reaching-past q =
@@ -83,8 +82,11 @@ module _ (s : Bytes) (start n reached limit : ℕ) where
     pub reaching-on : (next : ℕ) → w ≡ Within next → Reaching (from + 16) (left - 1) next
     reaching-on next q =
         let l = was-within limit (lifted top g) next (sym e ∙ q) in
-        record { rest = split-reach ∙ rw (l .0); below = omega (arith, l .0, l .1); inside = omega (arith, i .inside) }
+        record {
+          over = rest-on reach s start n reached from left top (i .over) more next (split-reach ∙ rw (l .0));
+          below = omega (arith, l .0, l .1);
+        }
 
   pub reaching-done : (from left top : ℕ) → Reaching from left top → left ≤ 0 → Within top ≡ within limit (reach reached (entriesFrom n s start))
   unfolding reach
-  reaching-done from left top i h = rw (i .rest, no-entry s left from h) (within-is limit top (i .below))
+  reaching-done from left top i h = rw (rest-none reach s start n reached from left top (i .over) h) (within-is limit top (i .below))

@@ -5,7 +5,8 @@ use borrow.Author.Tests.{not-true, not-false}
 use lib.ListN.{take}
 use Rattle.rules.specs.Writer.{paired}
 use Rattle.admission.specs.Allowed.{insideOne}
-use Rattle.admission.proofs.Search.{Each, each-begun, each-fails, each-on, each-done}
+use Rattle.header.proofs.Entries.{rest-begun}
+use Rattle.admission.proofs.Search.{Each, each-fails, each-on, each-done}
 use Rattle.admission.proofs.all_inside.Statement.{statement}
 use Rattle.admission.proofs.all_inside.Tie as tie
 
@@ -16,7 +17,7 @@ abbrev μ-loop : tie.MeasureT-loop
 μ-loop segment starts sizes n from₀ left₀ from left = left
 
 loop-holds : tie.Need-loop-holds Inv-loop μ-loop
-loop-holds c = let l = c .before .before .before .before .pre .0 .inside in each-begun _ _ _ _ (omega arith)
+loop-holds c = let l = c .before .before .before .before .pre .0 .inside in rest-begun _ _ _ _ _ (omega arith)
 
 entry-at-requires : tie.Need-entry-at-requires Inv-loop μ-loop
 entry-at-requires c κs = let i = c .before .loop .inv .inside in omega arith

@@ -1,6 +1,7 @@
 use borrow.Author.Needs.{needs}
 use native.Mathlib.Omega.{arith}
-use Rattle.entries.proofs.Entrywise.{Starting, starting-begun, starting-hit, starting-on, starting-none}
+use Rattle.header.proofs.Entries.{rest-begun}
+use Rattle.entries.proofs.Entrywise.{Starting, starting-hit, starting-on, starting-none}
 use Rattle.entries.proofs.starts_beyond_in.Statement.{statement}
 use Rattle.entries.proofs.starts_beyond_in.Tie as tie
 
@@ -11,7 +12,7 @@ abbrev μ-loop : tie.MeasureT-loop
 μ-loop s logical from₀ left₀ from left = left
 
 loop-holds : tie.Need-loop-holds Inv-loop μ-loop
-loop-holds c = let l = c .before .before .pre .inside in starting-begun _ _ _ _ (omega arith)
+loop-holds c = let l = c .before .before .pre .inside in rest-begun _ _ _ _ _ (omega arith)
 
 entry-at-requires : tie.Need-entry-at-requires Inv-loop μ-loop
 entry-at-requires c κs = let i = c .before .loop .inv .inside in omega arith

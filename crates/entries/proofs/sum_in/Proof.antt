@@ -14,7 +14,7 @@ loop-holds : tie.Need-loop-holds Inv-loop μ-loop
 loop-holds c = summing-begun _ _ _ (c .before .pre)
 
 entry-at-requires : tie.Need-entry-at-requires Inv-loop μ-loop
-entry-at-requires c κs = let i = c .before .loop .inv .inside in omega arith
+entry-at-requires c κs = let i = c .before .loop .inv .over .inside in omega arith
 
 sub-if1 : tie.Need-sub-if1 Inv-loop μ-loop
 sub-if1 c = let f = c .before .before .loop .inv .fits in omega arith
@@ -29,7 +29,7 @@ add-sum : tie.Need-add-sum Inv-loop μ-loop
 add-sum c = let f = c .before .before .before .before .before .loop .inv .fits in omega arith
 
 add-from : tie.Need-add-from Inv-loop μ-loop
-add-from c = let i = c .before .before .before .before .before .loop .inv .inside in omega arith
+add-from c = let i = c .before .before .before .before .before .loop .inv .over .inside in omega arith
 
 sub-left : tie.Need-sub-left Inv-loop μ-loop
 sub-left c = search needs

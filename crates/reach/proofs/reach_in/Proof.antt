@@ -14,7 +14,7 @@ loop-holds : tie.Need-loop-holds Inv-loop μ-loop
 loop-holds c = let p = c .before .before .pre in let l = p .1 .inside in reaching-begun _ _ _ _ _ (p .0) (omega arith)
 
 entry-at-requires : tie.Need-entry-at-requires Inv-loop μ-loop
-entry-at-requires c κs = let i = c .before .loop .inv .inside in omega arith
+entry-at-requires c κs = let i = c .before .loop .inv .over .inside in omega arith
 
 reach-more-requires : tie.Need-reach-more-requires Inv-loop μ-loop
 reach-more-requires c κs = c .before .before .loop .inv .below
@@ -29,7 +29,7 @@ enum-known-more : tie.Need-enum-known-more Inv-loop μ-loop
 enum-known-more c = search needs
 
 add-from : tie.Need-add-from Inv-loop μ-loop
-add-from c = let i = c .before .before .before .before .before .before .loop .inv .inside in omega arith
+add-from c = let i = c .before .before .before .before .before .before .loop .inv .over .inside in omega arith
 
 sub-left : tie.Need-sub-left Inv-loop μ-loop
 sub-left c = search needs
