@@ -15,18 +15,16 @@ use Rattle.rules.specs.Segment.{placesFrom, entriesFrom}
 use Rattle.rules.specs.Writer.{paired}
 use Rattle.capability.specs.declared.Sought.{Sought}
 use Rattle.header.specs.declared.Parsed.{Parsed}
-use Rattle.sought.specs.Sought.{Lying, LyingAt, FewAt, Reads, soughtBy}
+use Rattle.segment.specs.Lying.{ExtensionAt}
+use Rattle.segment.proofs.Lying.{lies}
+use Rattle.capability.specs.Sought.{Reads, soughtBy}
 use Rattle.admission.specs.Allowed.{piecesFrom, piecesAt, piecesIn, noted, Noted, insideOne, eachInside, someOf, admittedIn}
 use Rattle.admission.proofs.Search.{length-noted, noted-both}
-
--- ---- where the list's data stands, it lies inside
-pub list-lies : (cdb s : Bytes) (p : Parsed) (d : Part) → Reads cdb s p → p .found .list ≡ At d → Lying 16 s d
-list-lies cdb s p d w e = subst (λ (x : Spot). LyingAt 16 s x) e (w .list)
 
 -- ---- what is noted of the whole command
 module _ (cdb s : Bytes) (p : Parsed) (reads : Reads cdb s p) where
   pub few-extensions : (d : Part) → p .found .extension ≡ At d → d .size / 104 ≤ 8
-  few-extensions d e = let l : d .size ≤ 832 = subst FewAt e (reads .few) in omega arith
+  few-extensions d e = let l = lies s _ d (reads .extension) e .few in omega arith
 
   length-places : (n from : ℕ) → length (placesFrom n from) ≡ n
   unfolding placesFrom
@@ -38,18 +36,19 @@ module _ (cdb s : Bytes) (p : Parsed) (reads : Reads cdb s p) where
   length-pieces (a ∷ ps) = ap suc (length-pieces ps)
 
   nine-at-most : length (piecesIn cdb s p) ≤ 9
-  nine-at-most = go (p .found .extension) (reads .few)
+  nine-at-most = go (p .found .extension) (reads .extension)
     where
-      go : (x : Spot) → FewAt x → length (part 80 104 cdb ∷ piecesAt s x) ≤ 9
+      go : (x : Spot) → ExtensionAt s x → length (part 80 104 cdb ∷ piecesAt s x) ≤ 9
       go Absent l = omega arith
-      go (At d) l = let e = length-pieces (placesFrom (d .size / 104) (d .at)) ∙ length-places (d .size / 104) (d .at) in omega (arith, e, l)
+      go (At d) l = let e = length-pieces (placesFrom (d .size / 104) (d .at)) ∙ length-places (d .size / 104) (d .at) in omega (arith, e, l .few)
 
   module _ (on : Record) (w : Sought) (ew : w ≡ soughtBy p on) (n : ℕ) (ss₀ zs₀ ss zs : List ℕ) (a : Noted w (part 80 104 cdb ∷ []) 0 ss₀ zs₀ n ss zs) where
     pub cdb-alone : p .found .extension ≡ Absent → Noted (soughtBy p on) (piecesIn cdb s p) 0 ss₀ zs₀ n ss zs
     cdb-alone e = subst (λ (x : Sought). Noted x (piecesIn cdb s p) 0 ss₀ zs₀ n ss zs) ew (rw e a)
 
     module _ (d : Part) (e : p .found .extension ≡ At d) where
-      pub with-extension : (r : ℕ) (ss′ zs′ : List ℕ) → Noted w (piecesFrom s (d .size / 104) (d .at)) n ss zs r ss′ zs′ → Noted (soughtBy p on) (piecesIn cdb s p) 0 ss₀ zs₀ r ss′ zs′
+      pub with-extension : (r : ℕ) (ss′ zs′ : List ℕ) → Noted w (piecesFrom s (d .size / 104) (d .at)) n ss zs r ss′ zs′
+          → Noted (soughtBy p on) (piecesIn cdb s p) 0 ss₀ zs₀ r ss′ zs′
       with-extension r ss′ zs′ b =
           subst (λ (x : Sought). Noted x (piecesIn cdb s p) 0 ss₀ zs₀ r ss′ zs′) ew
           (rw e (noted-both w (part 80 104 cdb) (piecesFrom s (d .size / 104) (d .at)) 0 n r ss₀ zs₀ ss zs ss′ zs′ a b))
@@ -85,10 +84,12 @@ module _ (cdb s : Bytes) (p : Parsed) (on : Record) (reads : Reads cdb s p) (n :
         go [] e = absurd (some e)
         go (w ∷ ws) e = refl
 
-    pub sole-let-in : p .found .list ≡ Absent → (t : Bool) → t ≡ insideOne (paired (take n ss) (take n zs)) (record { start = p .start; size = p .size }) → t ≡ admittedIn cdb s p on
+    pub sole-let-in : p .found .list ≡ Absent → (t : Bool)
+        → t ≡ insideOne (paired (take n ss) (take n zs)) (record { start = p .start; size = p .size }) → t ≡ admittedIn cdb s p on
     unfolding admittedIn
     sole-let-in e t h = rw (somebody, e) (h ∙ ap (λ (ws : List Range). insideOne ws (record { start = p .start; size = p .size })) there)
 
-    pub list-let-in : (d : Part) → p .found .list ≡ At d → (t : Bool) → t ≡ all (insideOne (paired (take n ss) (take n zs))) (entriesFrom (d .size / 16) s (d .at)) → t ≡ admittedIn cdb s p on
+    pub list-let-in : (d : Part) → p .found .list ≡ At d → (t : Bool)
+        → t ≡ all (insideOne (paired (take n ss) (take n zs))) (entriesFrom (d .size / 16) s (d .at)) → t ≡ admittedIn cdb s p on
     unfolding admittedIn
     list-let-in d e t h = rw (somebody, e) (h ∙ ap (λ (ws : List Range). all (insideOne ws) (entriesFrom (d .size / 16) s (d .at))) there)

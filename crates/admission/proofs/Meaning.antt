@@ -17,14 +17,14 @@ use Rattle.rules.specs.Reading.{Held, found, ranges, rangesOf, solo, extension,
 use Rattle.rules.specs.Capability.{inside}
 use Rattle.rules.specs.Admission.{fits, admits, admitting, admitted}
 use Rattle.capability.specs.Terms.{meets}
-use Rattle.allowance.specs.Allowance.{allowance}
-use Rattle.allowance.proofs.Allowance.{inside-is}
+use Rattle.capability.specs.Allowance.{allowance}
+use Rattle.capability.proofs.Allowance.{inside-is}
 use Rattle.header.specs.declared.Parsed.{Parsed}
 use Rattle.header.specs.declared.Reading.the-variants.{Readable}
 use Rattle.header.specs.Reading.{saidBy, readingOf}
 use Rattle.header.proofs.Rows.{Says, says}
-use Rattle.sought.specs.Sought.{admitsIn}
-use Rattle.sought.proofs.Meaning.{saidIn, soughtIn, fits-is, admits-is, firstBy, part-is}
+use Rattle.capability.specs.Sought.{admitsIn}
+use Rattle.capability.proofs.Meaning.{saidIn, soughtIn, fits-is, admits-is, firstBy, part-is}
 use Rattle.admission.specs.Allowed.{piecesAt, piecesIn, noted, insideOne, eachInside, someOf, admittedIn}
 
 -- the bytes of capabilities
@@ -39,7 +39,9 @@ module _ (v : Verb) (c : Command) where
   any-noted (k ∷ ks) = go (fits v c k) (fits-is v c k) (any-noted ks)
     where
       go : (b : Bool) → b ≡ meets (soughtIn v c) (k .bytes) → any (fits v c) ks ≡ someOf (noted (soughtIn v c) (bytesOf ks))
-          → (b || any (fits v c) ks) ≡ someOf (cond (meets (soughtIn v c) (k .bytes)) (allowance (k .bytes) ∷ noted (soughtIn v c) (bytesOf ks)) (noted (soughtIn v c) (bytesOf ks)))
+          → (b || any (fits v c) ks) ≡ someOf
+          (cond (meets (soughtIn v c) (k .bytes)) (allowance (k .bytes) ∷ noted (soughtIn v c) (bytesOf ks))
+          (noted (soughtIn v c) (bytesOf ks)))
       go true e r = rw (← e)
       go false e r = rw (← e) r
 
@@ -48,7 +50,8 @@ module _ (v : Verb) (c : Command) where
   one-noted g [] = refl
   one-noted g (k ∷ ks) = go (meets (soughtIn v c) (k .bytes)) refl (inside g (k .bytes)) refl (one-noted g ks)
     where
-      go : (m : Bool) → meets (soughtIn v c) (k .bytes) ≡ m → (i : Bool) → inside g (k .bytes) ≡ i → isSome (firstBy v c g ks) ≡ insideOne (noted (soughtIn v c) (bytesOf ks)) g
+      go : (m : Bool) → meets (soughtIn v c) (k .bytes) ≡ m → (i : Bool) → inside g (k .bytes) ≡ i
+          → isSome (firstBy v c g ks) ≡ insideOne (noted (soughtIn v c) (bytesOf ks)) g
           → isSome (cond (admits v c g k) (some k) (firstBy v c g ks))
           ≡ insideOne (cond (meets (soughtIn v c) (k .bytes)) (allowance (k .bytes) ∷ noted (soughtIn v c) (bytesOf ks)) (noted (soughtIn v c) (bytesOf ks))) g
       go true e true f r = rw (admits-is v c g k, e, inside-is (k .bytes) g, f)

@@ -10,12 +10,12 @@ use Rattle.rules.specs.declared.Range.{Range}
 use Rattle.rules.specs.Bytes.{Bytes, all}
 use Rattle.rules.specs.Segment.{entryAt, entriesFrom}
 use Rattle.rules.specs.Writer.{paired}
-use Rattle.header.proofs.Entries.{Rest, rest-split, rest-on, rest-none}
+use Rattle.segment.proofs.Entries.{Rest, rest-split, rest-on, rest-none}
 use Rattle.rules.proofs.Paired.{paired-more}
 use Rattle.capability.specs.declared.Sought.{Sought}
 use Rattle.capability.specs.Terms.{meets}
-use Rattle.allowance.specs.Allowance.{allowance}
-use Rattle.sought.proofs.Pieces.{peel, none-left, piece}
+use Rattle.capability.specs.Allowance.{allowance}
+use Rattle.capability.proofs.Pieces.{peel, none-left, piece}
 use Rattle.admission.specs.Allowed.{piecesFrom, noted, Noted}
 
 -- ---- what is noted
@@ -80,7 +80,8 @@ module _ (w : Sought) where
     noting-begun l = record { inside = l; room = omega arith; starts = refl; sizes = refl; rest = λ r ss′ zs′ x. x }
 
     pub noting-on : (ss zs : List ℕ) (from left count : ℕ) → Noting ss zs from left count → 0 < left
-        → (r : ℕ) (ss′ zs′ : List ℕ) → Noted w (take (from + 104 - from) (drop from s) ∷ []) count ss zs r ss′ zs′ → length ss′ ≡ length ss → length zs′ ≡ length zs
+        → (r : ℕ) (ss′ zs′ : List ℕ) → Noted w (take (from + 104 - from) (drop from s) ∷ []) count ss zs r ss′ zs′ → length ss′ ≡ length ss
+        → length zs′ ≡ length zs
         → Noting ss′ zs′ (from + 104) (left - 1) r
     noting-on ss zs from left count i more r ss′ zs′ a es ez =
         let k = take (from + 104 - from) (drop from s) in

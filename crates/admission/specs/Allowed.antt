@@ -13,9 +13,9 @@ use Rattle.rules.specs.Segment.{placesFrom, entriesFrom}
 use Rattle.rules.specs.Writer.{paired}
 use Rattle.capability.specs.declared.Sought.{Sought}
 use Rattle.capability.specs.Terms.{meets}
-use Rattle.allowance.specs.Allowance.{allowance, insideOf}
+use Rattle.capability.specs.Allowance.{allowance, insideOf}
 use Rattle.header.specs.declared.Parsed.{Parsed}
-use Rattle.sought.specs.Sought.{soughtBy}
+use Rattle.capability.specs.Sought.{soughtBy}
 
 -- the capabilities, the CDB's first
 abbrev pub piecesFrom : Bytes → (number from : ℕ) → List Bytes

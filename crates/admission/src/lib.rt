@@ -15,7 +15,8 @@ ghost use Rattle.rules.specs.Writer.{paired};
 ghost use Rattle.rules.specs.Admission.{admitted};
 ghost use Rattle.header.specs.declared.Reading.the-variants.{Readable};
 ghost use Rattle.header.specs.Reading.{command, readingOf};
-ghost use Rattle.sought.specs.Sought.{Lying, Reads, soughtBy};
+ghost use Rattle.segment.specs.Lying.{ListIn, ExtensionIn};
+ghost use Rattle.capability.specs.Sought.{Reads, soughtBy};
 ghost use Rattle.admission.specs.Allowed.{piecesFrom, piecesIn, Noted, insideOne, admittedIn};
 
 // What a capability allows, noted behind the n that are there if it matches. So each is matched once for all ranges of a list.
@@ -26,7 +27,7 @@ fn note(k: &[u8], by: Sought, starts: &mut [u64], sizes: &mut [u64], n: usize) -
     if !capability::is_match(k, by) {
         return n;
     }
-    let allowance = allowance::allowance_of(k);
+    let allowance = capability::allowance_of(k);
     starts[n] = allowance.start;
     sizes[n] = allowance.size;
     n + 1
@@ -40,7 +41,7 @@ fn note_extension(
     sizes: &mut [u64],
     n: usize,
 ) -> usize
-    requires { ⌜ Lying 104 (now segment) part ⌝ }
+    requires { ⌜ ExtensionIn (now segment) part ⌝ }
     requires { ⌜ (n + part .size / 104 ≤ length (now starts)) × (n + part .size / 104 ≤ length (now sizes)) ⌝ }
     ensures { λ r. ⌜ Noted by (piecesFrom (now (segment .entry)) (part .size / 104) (part .at)) n
         (now (starts .entry)) (now (sizes .entry)) r (now (starts .exit)) (now (sizes .exit)) ⌝ }
@@ -71,7 +72,7 @@ fn note_all(
     ensures { λ r. ⌜ Noted (soughtBy said on) (piecesIn (now (cdb .entry)) (now (segment .entry)) said) 0
         (now (starts .entry)) (now (sizes .entry)) r (now (starts .exit)) (now (sizes .exit)) ⌝ }
 {
-    let by = sought::sought_by(said, on);
+    let by = capability::sought_by(said, on);
     let own = note(&cdb[80..184], by, starts, sizes, 0);
     let found = said.found;
     let extension = found.extension;
@@ -92,7 +93,7 @@ fn lies_inside(starts: &[u64], sizes: &[u64], n: usize, g: Range) -> bool
             start: starts[i],
             size: sizes[i],
         };
-        if allowance::is_allowed(g, allowance) {
+        if capability::is_allowed(g, allowance) {
             return true;
         }
         i += 1;
@@ -102,7 +103,7 @@ fn lies_inside(starts: &[u64], sizes: &[u64], n: usize, g: Range) -> bool
 
 // Whether each entry of the list does.
 fn all_inside(segment: &[u8], part: Part, starts: &[u64], sizes: &[u64], n: usize) -> bool
-    requires { ⌜ Lying 16 (now segment) part ⌝ }
+    requires { ⌜ ListIn (now segment) part ⌝ }
     requires { ⌜ (n ≤ length (now starts)) × (n ≤ length (now sizes)) ⌝ }
     ensures { λ r. ⌜ r ≡ all (insideOne (paired (take n (now (starts .entry))) (take n (now (sizes .entry)))))
         (entriesFrom (part .size / 16) (now (segment .entry)) (part .at)) ⌝ }

@@ -13,11 +13,11 @@ use Rattle.rules.specs.Command.{Command}
 use Rattle.rules.specs.Answer.{answered, Answered}
 use Rattle.header.specs.Reading.{command}
 use Rattle.engine.specs.Promise.{whole}
-use Rattle.sections.specs.declared.Sections.{Sections}
-use Rattle.sections.specs.declared.Layout.{Layout}
-use Rattle.sections.specs.File.{end, layoutOf, bytesOf, recordOf}
-use Rattle.line.specs.declared.Line.{Line}
-use Rattle.line.specs.Told.{lineOf}
+use Rattle.callfile.specs.declared.Sections.{Sections}
+use Rattle.callfile.specs.declared.Layout.{Layout}
+use Rattle.callfile.specs.File.{end, layoutOf, bytesOf, recordOf}
+use Rattle.callfile.specs.declared.Line.{Line}
+use Rattle.callfile.specs.Told.{lineOf}
 use Rattle.bench.specs.declared.Reply.{Reply}
 use Rattle.bench.specs.Reply.{answerTo, replyTo}
 

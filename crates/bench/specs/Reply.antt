@@ -3,10 +3,10 @@ use Rattle.rules.specs.declared.Answer.{Answer}
 use Rattle.rules.specs.Bytes.{Bytes, zeros}
 use Rattle.rules.specs.Answer.{answered}
 use Rattle.header.specs.Reading.{command}
-use Rattle.sections.specs.declared.Sections.{Sections}
-use Rattle.sections.specs.declared.Layout.{Layout}
-use Rattle.sections.specs.File.{bytesOf, recordOf, layoutOf}
-use Rattle.line.specs.Told.{lineOf}
+use Rattle.callfile.specs.declared.Sections.{Sections}
+use Rattle.callfile.specs.declared.Layout.{Layout}
+use Rattle.callfile.specs.File.{bytesOf, recordOf, layoutOf}
+use Rattle.callfile.specs.Told.{lineOf}
 use Rattle.bench.specs.declared.Reply.{Reply}
 
 -- the book's answer to the call, with a Data-In of 4,096 zeros

@@ -1,20 +1,20 @@
 // One call from a file on standard input: the answer is printed as one line, or `bad file`.
 // `reply_to` makes of the file what is to be printed. No contract can speak of input and output, so only the last functions have any.
+use callfile::Layout;
+use callfile::Line;
+use callfile::Sections;
 use libc::STDIN_FILENO;
 use libc::STDOUT_FILENO;
-use line::Line;
 use rules::Answer;
 use rules::Part;
 use rules::Record;
-use sections::Layout;
-use sections::Sections;
 ghost use mathlib.Core.Path.{_≡_};
 ghost use Prim.Native.Nat.{_≤_};
 ghost use lib.ListN.{length};
 ghost use Rattle.rules.specs.Bytes.{zeros};
 ghost use Rattle.rules.specs.Answer.{answered};
 ghost use Rattle.header.specs.Reading.{command};
-ghost use Rattle.sections.specs.File.{end, bytesOf, Inside};
+ghost use Rattle.callfile.specs.File.{end, bytesOf, Inside};
 ghost use Rattle.bench.specs.Reply.{answerTo, replyTo};
 
 enum Reply {
@@ -47,7 +47,7 @@ fn answer_to(file: &[u8], sections: Sections) -> Answer
     requires { ⌜ Inside (now file) sections ⌝ }
     ensures { λ r. ⌜ r ≡ answerTo (now (file .entry)) sections ⌝ }
 {
-    let on = sections::record_of(bytes_of(file, sections.on));
+    let on = callfile::record_of(bytes_of(file, sections.on));
     carry_out(
         bytes_of(file, sections.cdb),
         bytes_of(file, sections.out),
@@ -59,10 +59,10 @@ fn answer_to(file: &[u8], sections: Sections) -> Answer
 fn reply_to(file: &[u8]) -> Reply
     ensures { λ r. ⌜ r ≡ replyTo (now (file .entry)) ⌝ }
 {
-    let Layout::Sound(sections) = sections::layout_of(file) else {
+    let Layout::Sound(sections) = callfile::layout_of(file) else {
         return Reply::BadFile;
     };
-    Reply::Told(line::line_of(answer_to(file, sections)))
+    Reply::Told(callfile::line_of(answer_to(file, sections)))
 }
 
 fn print_line(line: Line) {
@@ -70,7 +70,7 @@ fn print_line(line: Line) {
     io::write_all(STDOUT_FILENO, b" ");
     io::print_decimal(STDOUT_FILENO, line.key as u64);
     io::write_all(STDOUT_FILENO, b" ");
-    io::write_all(STDOUT_FILENO, &line::code_text(line.code));
+    io::write_all(STDOUT_FILENO, &callfile::code_text(line.code));
     io::write_all(STDOUT_FILENO, b" ");
     io::print_decimal(STDOUT_FILENO, line.count);
     io::write_all(STDOUT_FILENO, b" ");

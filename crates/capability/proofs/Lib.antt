@@ -1,1 +1,4 @@
 pub mod Terms
+pub mod Allowance
+pub mod Pieces
+pub mod Meaning

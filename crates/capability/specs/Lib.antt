@@ -1,1 +1,3 @@
 pub mod Terms
+pub mod Allowance
+pub mod Sought

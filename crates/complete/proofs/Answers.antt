@@ -6,6 +6,7 @@ use mathlib.Core.Path.{_≡_, ap, sym, _∙_}
 use lib.ListN.{length-replicate}
 use denote.Ref.{RefT, now}
 use Rattle.rules.specs.declared.Here.{Here}
+use Rattle.rules.specs.declared.Record.{Record}
 use Rattle.rules.specs.Bytes.{Bytes, zeros}
 use Rattle.rules.specs.Answer.{Answered}
 use Rattle.rules.specs.Writer.{Written}
@@ -17,65 +18,60 @@ use Rattle.rules.proofs.Record.shortened.Reads as shortened
 use Rattle.wire.proofs.get16.Reads as get16
 use Rattle.wire.proofs.get32.Reads as get32
 use Rattle.wire.proofs.get64.Reads as get64
-use Rattle.pen.proofs.put16.Reads as put16
-use Rattle.pen.proofs.put32.Reads as put32
-use Rattle.pen.proofs.put64.Reads as put64
-use Rattle.ranges.proofs.sum_of.Reads as sum-of
-use Rattle.ranges.proofs.overlap.Reads as overlap
+use Rattle.wire.proofs.put32.Reads as put32
+use Rattle.wire.proofs.put64.Reads as put64
 use Rattle.movers.proofs.copy.Reads as copy
 use Rattle.movers.proofs.wipe.Reads as wipe
 use Rattle.movers.proofs.move_down.Reads as move-down
-use Rattle.segment.proofs.standing_at.Reads as standing-at
-use Rattle.segment.proofs.entry_at.Reads as entry-at
-use Rattle.walk.proofs.step_from.Reads as step-from
-use Rattle.walk.proofs.walk_over.Reads as walk-over
-use Rattle.reader.proofs.nth_of.Reads as nth-of
-use Rattle.header.proofs.read_command.Reads as read-command
-use Rattle.capability.proofs.is_match.Reads as is-match
-use Rattle.allowance.proofs.allowance_of.Reads as allowance-of
-use Rattle.allowance.proofs.is_allowed.Reads as is-allowed
-use Rattle.allowance.proofs.is_inside.Reads as is-inside
-use Rattle.sought.proofs.sought_by.Reads as sought-by
-use Rattle.admission.proofs.is_admitted.Reads as is-admitted
-use Rattle.question.proofs.place_that_admits.Reads as place-that-admits
-use Rattle.question.proofs.capability_that_admits.Reads as capability-that-admits
-use Rattle.entries.proofs.is_list_fault.Reads as is-list-fault
-use Rattle.entries.proofs.starts_beyond_in.Reads as starts-beyond-in
-use Rattle.reach.proofs.reach_more.Reads as reach-more
-use Rattle.reach.proofs.reach_in.Reads as reach-in
-use Rattle.decision.proofs.decide.Reads as decide
-use Rattle.object.proofs.grow.Reads as grow
-use Rattle.object.proofs.write_range.Reads as write-range
-use Rattle.object.proofs.clear_range.Reads as clear-range
-use Rattle.within.proofs.punch.Reads as punch
-use Rattle.within.proofs.gather.Reads as gather
-use Rattle.lists.proofs.gather_list.Reads as gather-list
-use Rattle.lists.proofs.scatter_list.Reads as scatter-list
-use Rattle.spread.proofs.sole_range.Reads as sole-range
-use Rattle.spread.proofs.gather_ranges.Reads as gather-ranges
-use Rattle.spread.proofs.scatter_ranges.Reads as scatter-ranges
-use Rattle.deeds.proofs.read.Reads as read
-use Rattle.deeds.proofs.write.Reads as write
-use Rattle.deeds.proofs.clear.Reads as clear
-use Rattle.deeds.proofs.punch.Reads as punch-deed
-use Rattle.cdb.proofs.put_cdb.Reads as put-cdb
-use Rattle.layout.proofs.put_segment.Reads as put-segment
-use Rattle.writer.proofs.write_command.Reads as write-command
 use Rattle.numbers.proofs.number_of.Reads as number-of
 use Rattle.numbers.proofs.sense_key.Reads as sense-key
 use Rattle.numbers.proofs.sense_code.Reads as sense-code
 use Rattle.numbers.proofs.status_of.Reads as status-of
-use Rattle.sections.proofs.layout_of.Reads as layout-of
-use Rattle.sections.proofs.record_of.Reads as record-of
-use Rattle.line.proofs.line_of.Reads as line-of
-use Rattle.line.proofs.code_text.Reads as code-text
+use Rattle.segment.proofs.standing_at.Reads as standing-at
+use Rattle.segment.proofs.entry_at.Reads as entry-at
+use Rattle.segment.proofs.step_from.Reads as step-from
+use Rattle.segment.proofs.walk_over.Reads as walk-over
+use Rattle.reader.proofs.nth_of.Reads as nth-of
+use Rattle.header.proofs.read_front.Reads as read-front
+use Rattle.header.proofs.is_other.Reads as is-other
+use Rattle.header.proofs.read_segment.Reads as read-segment
+use Rattle.header.proofs.read_command.Reads as read-command
+use Rattle.ranges.proofs.sum_of.Reads as sum-of
+use Rattle.ranges.proofs.overlap.Reads as overlap
+use Rattle.ranges.proofs.is_list_fault.Reads as is-list-fault
+use Rattle.ranges.proofs.starts_beyond_in.Reads as starts-beyond-in
+use Rattle.ranges.proofs.reach_more.Reads as reach-more
+use Rattle.ranges.proofs.reach_in.Reads as reach-in
+use Rattle.capability.proofs.is_match.Reads as is-match
+use Rattle.capability.proofs.allowance_of.Reads as allowance-of
+use Rattle.capability.proofs.is_allowed.Reads as is-allowed
+use Rattle.capability.proofs.is_inside.Reads as is-inside
+use Rattle.capability.proofs.sought_by.Reads as sought-by
+use Rattle.admission.proofs.is_admitted.Reads as is-admitted
+use Rattle.question.proofs.place_that_admits.Reads as place-that-admits
+use Rattle.question.proofs.capability_that_admits.Reads as capability-that-admits
+use Rattle.decision.proofs.decide.Reads as decide
+use Rattle.object.proofs.clear_range.Reads as clear-range
+use Rattle.object.proofs.punch.Reads as punch
+use Rattle.object.proofs.sole_range.Reads as sole-range
+use Rattle.object.proofs.gather_ranges.Reads as gather-ranges
+use Rattle.object.proofs.scatter_ranges.Reads as scatter-ranges
+use Rattle.actions.proofs.read.Reads as read
+use Rattle.actions.proofs.write.Reads as write
+use Rattle.actions.proofs.clear.Reads as clear
+use Rattle.actions.proofs.punch.Reads as punch-action
 use Rattle.engine.proofs.execute.Reads as execute
+use Rattle.writer.proofs.write_command.Reads as write-command
 use Rattle.holmweder.proofs.holmweder_execute.Reads as holmweder-execute
 use Rattle.holmweder.proofs.holmweder_admission.Reads as holmweder-admission
 use Rattle.holmweder.proofs.holmweder_sense_key.Reads as holmweder-sense-key
 use Rattle.holmweder.proofs.holmweder_sense_code.Reads as holmweder-sense-code
 use Rattle.holmweder.proofs.holmweder_status.Reads as holmweder-status
 use Rattle.holmweder.proofs.holmweder_write.Reads as holmweder-write
+use Rattle.callfile.proofs.layout_of.Reads as layout-of
+use Rattle.callfile.proofs.record_of.Reads as record-of
+use Rattle.callfile.proofs.line_of.Reads as line-of
+use Rattle.callfile.proofs.code_text.Reads as code-text
 
 -- two answers that a promise P allows
 abbrev One : {K : Type 0} {A R S : K → Type 0} → ((κs : K) → A κs → R κs → S κs → Type 0) → Type 0
@@ -96,7 +92,7 @@ one-with-length κs a r r′ s s′ e f = e ∙ sym f
 one-shortened : One shortened.Post
 one-shortened κs a r r′ s s′ e f = e ∙ sym f
 
--- ---- `wire`: numbers out of byte slices
+-- ---- `wire`: numbers in byte slices
 one-get16 : One get16.Post
 one-get16 κs a r r′ s s′ e f = e ∙ sym f
 
@@ -106,22 +102,11 @@ one-get32 κs a r r′ s s′ e f = e ∙ sym f
 one-get64 : One get64.Post
 one-get64 κs a r r′ s s′ e f = e ∙ sym f
 
--- ---- `pen`: numbers into byte slices
-one-put16 : Left put16.Post (λ κs s. now (s .0))
-one-put16 κs a r r′ s s′ e f = e ∙ sym f
-
 one-put32 : Left put32.Post (λ κs s. now (s .0))
 one-put32 κs a r r′ s s′ e f = e ∙ sym f
 
 one-put64 : Left put64.Post (λ κs s. now (s .0))
 one-put64 κs a r r′ s s′ e f = e ∙ sym f
-
--- ---- `ranges`: sums and shared positions
-one-sum-of : One sum-of.Post
-one-sum-of κs a r r′ s s′ e f = e (zeros (a .1 .0)) (length-replicate _ 0) ∙ sym (f (zeros (a .1 .0)) (length-replicate _ 0))
-
-one-overlap : One overlap.Post
-one-overlap κs a r r′ s s′ e f = e ∙ sym f
 
 -- ---- `movers`: bytes within slices
 one-copy : Left copy.Post (λ κs s. now (s .1 .1 .1 .0))
@@ -133,14 +118,26 @@ one-wipe κs a r r′ s s′ e f = e ∙ sym f
 one-move-down : Left move-down.Post (λ κs s. now (s .0))
 one-move-down κs a r r′ s s′ e f = e ∙ sym f
 
--- ---- `segment`: what stands at a position
+-- ---- `numbers`: numbers, sense and status
+one-number-of : One number-of.Post
+one-number-of κs a r r′ s s′ e f = e ∙ sym f
+
+one-sense-key : One sense-key.Post
+one-sense-key κs a r r′ s s′ e f = e ∙ sym f
+
+one-sense-code : One sense-code.Post
+one-sense-code κs a r r′ s s′ e f = e ∙ sym f
+
+one-status-of : One status-of.Post
+one-status-of κs a r r′ s s′ e f = e ∙ sym f
+
+-- ---- `segment`: what stands at a position, and the walk
 one-standing-at : One standing-at.Post
 one-standing-at κs a r r′ s s′ e f = e ∙ sym f
 
 one-entry-at : One entry-at.Post
 one-entry-at κs a r r′ s s′ e f = e ∙ sym f
 
--- ---- `walk`: the walk over a segment
 one-step-from : One step-from.Post
 one-step-from κs a r r′ s s′ e f = e ∙ sym f
 
@@ -167,14 +164,45 @@ one-left-of : (d : Bytes) (p : Position) (r r′ : ℕ) → r ≡ left d p → r
 one-left-of d p r r′ e f = e ∙ sym f
 
 -- ---- `header`: rows 2 to 8
+one-read-front : One read-front.Post
+one-read-front κs a r r′ s s′ e f = e ∙ sym f
+
+one-is-other : One is-other.Post
+one-is-other κs a r r′ s s′ e f = e ∙ sym f
+
+-- what is promised of every record, at one of them
+anybody : Record
+anybody = record { partition = 0; object = 0; length = 0; maximum = 0; tag = 0; epoch = 0 }
+
+one-read-segment : One read-segment.Post
+one-read-segment κs a r r′ s s′ e f = e anybody ∙ sym (f anybody)
+
 one-read-command : One read-command.Post
 one-read-command κs a r r′ s s′ e f = e ∙ sym f
 
--- ---- `capability`: whether one matches
+-- ---- `ranges`: two slices of numbers, and a list's entries where they stand
+one-sum-of : One sum-of.Post
+one-sum-of κs a r r′ s s′ e f = e (zeros (a .1 .0)) (length-replicate _ 0) ∙ sym (f (zeros (a .1 .0)) (length-replicate _ 0))
+
+one-overlap : One overlap.Post
+one-overlap κs a r r′ s s′ e f = e ∙ sym f
+
+one-is-list-fault : One is-list-fault.Post
+one-is-list-fault κs a r r′ s s′ e f = e ∙ sym f
+
+one-starts-beyond-in : One starts-beyond-in.Post
+one-starts-beyond-in κs a r r′ s s′ e f = e ∙ sym f
+
+one-reach-more : One reach-more.Post
+one-reach-more κs a r r′ s s′ e f = e ∙ sym f
+
+one-reach-in : One reach-in.Post
+one-reach-in κs a r r′ s s′ e f = e ∙ sym f
+
+-- ---- `capability`: one capability
 one-is-match : One is-match.Post
 one-is-match κs a r r′ s s′ e f = e ∙ sym f
 
--- ---- `allowance`: what one allows
 one-allowance-of : One allowance-of.Post
 one-allowance-of κs a r r′ s s′ e f = e ∙ sym f
 
@@ -184,7 +212,6 @@ one-is-allowed κs a r r′ s s′ e f = e ∙ sym f
 one-is-inside : One is-inside.Post
 one-is-inside κs a r r′ s s′ e f = e ∙ sym f
 
--- ---- `sought`: what capabilities are held against
 one-sought-by : One sought-by.Post
 one-sought-by κs a r r′ s s′ e f = e ∙ sym f
 
@@ -202,49 +229,17 @@ one-capability-that-admits : (κs : _) (a : _) (r r′ : _) (s s′ : _)
     × (r .ptr ≡ r′ .ptr)
 one-capability-that-admits κs a r r′ s s′ e f = (e .bytes ∙ sym (f .bytes), e .place ∙ sym (f .place))
 
--- ---- `entries`: a list's entries where they stand
-one-is-list-fault : One is-list-fault.Post
-one-is-list-fault κs a r r′ s s′ e f = e ∙ sym f
-
-one-starts-beyond-in : One starts-beyond-in.Post
-one-starts-beyond-in κs a r r′ s s′ e f = e ∙ sym f
-
--- ---- `reach`: how far ranges reach
-one-reach-more : One reach-more.Post
-one-reach-more κs a r r′ s s′ e f = e ∙ sym f
-
-one-reach-in : One reach-in.Post
-one-reach-in κs a r r′ s s′ e f = e ∙ sym f
-
 -- ---- `decision`: the decision
 one-decide : One decide.Post
 one-decide κs a r r′ s s′ e f = e ∙ sym f
 
--- ---- `object`: bytes put into a range
-one-grow : Left grow.Post (λ κs s. now (s .0))
-one-grow κs a r r′ s s′ e f = e ∙ sym f
-
-one-write-range : Left write-range.Post (λ κs s. now (s .0))
-one-write-range κs a r r′ s s′ e f = e ∙ sym f
-
+-- ---- `object`: a command's ranges
 one-clear-range : Left clear-range.Post (λ κs s. now (s .0))
 one-clear-range κs a r r′ s s′ e f = e ∙ sym f
 
--- ---- `within`: what of a range lies within the object
 one-punch : Both punch.Post (λ κs s. now (s .0))
 one-punch κs a r r′ s s′ e f = (e .0 ∙ sym (f .0), e .1 ∙ sym (f .1))
 
-one-gather : Both gather.Post (λ κs s. now (s .1 .1 .1 .0))
-one-gather κs a r r′ s s′ e f = (e .0 ∙ sym (f .0), e .1 ∙ sym (f .1))
-
--- ---- `lists`: a list's ranges
-one-gather-list : Both gather-list.Post (λ κs s. now (s .1 .1 .1 .1 .1 .0))
-one-gather-list κs a r r′ s s′ e f = (e .0 ∙ sym (f .0), e .1 ∙ sym (f .1))
-
-one-scatter-list : Left scatter-list.Post (λ κs s. now (s .1 .1 .1 .1 .1 .0))
-one-scatter-list κs a r r′ s s′ e f = e ∙ sym f
-
--- ---- `spread`: a command's ranges
 one-sole-range : One sole-range.Post
 one-sole-range κs a r r′ s s′ e f = e ∙ sym f
 
@@ -254,7 +249,7 @@ one-gather-ranges κs a r r′ s s′ e f = (e .0 ∙ sym (f .0), e .1 ∙ sym (
 one-scatter-ranges : Left scatter-ranges.Post (λ κs s. now (s .1 .1 .1 .1 .1 .0))
 one-scatter-ranges κs a r r′ s s′ e f = e ∙ sym f
 
--- ---- `deeds`: what each verb does
+-- ---- `actions`: what each verb does
 one-read : Both read.Post (λ κs s. now (s .1 .1 .1 .1 .0))
 one-read κs a r r′ s s′ e f = (e .0 ∙ sym (f .0), e .1 ∙ sym (f .1))
 
@@ -264,53 +259,9 @@ one-write κs a r r′ s s′ e f = (e .0 ∙ sym (f .0), e .1 ∙ sym (f .1))
 one-clear : Both clear.Post (λ κs s. now (s .1 .1 .1 .0))
 one-clear κs a r r′ s s′ e f = (e .0 ∙ sym (f .0), e .1 ∙ sym (f .1))
 
--- `one-punch` is of the mover
-one-punch-deed : Both punch-deed.Post (λ κs s. now (s .1 .1 .0))
-one-punch-deed κs a r r′ s s′ e f = (e .0 ∙ sym (f .0), e .1 ∙ sym (f .1))
-
--- ---- `cdb`: the CDB as a host writes it
-one-put-cdb : Left put-cdb.Post (λ κs s. now (s .0))
-one-put-cdb κs a r r′ s s′ e f = e ∙ sym f
-
--- ---- `layout`: the segment as a host writes it
-one-put-segment : Left put-segment.Post (λ κs s. now (s .0))
-one-put-segment κs a r r′ s s′ e f = e ∙ sym f
-
--- ---- `writer`: the host's writer
-one-write-command : (κs : _) (a : _) (r r′ : _) (s s′ : _)
-    → write-command.Post κs a r s → write-command.Post κs a r′ s′
-    → (r .number ≡ r′ .number)
-    × (r .size ≡ r′ .size)
-    × (now (s .1 .1 .1 .1 .1 .1 .1 .1 .1 .0) ≡ now (s′ .1 .1 .1 .1 .1 .1 .1 .1 .1 .0))
-    × (now (s .1 .1 .1 .1 .1 .1 .1 .1 .1 .1 .0) ≡ now (s′ .1 .1 .1 .1 .1 .1 .1 .1 .1 .1 .0))
-one-write-command κs a r r′ s s′ e f = (e .number ∙ sym (f .number), e .size ∙ sym (f .size), e .cdb ∙ sym (f .cdb), e .segment ∙ sym (f .segment))
-
--- ---- `numbers`: numbers, sense and status
-one-number-of : One number-of.Post
-one-number-of κs a r r′ s s′ e f = e ∙ sym f
-
-one-sense-key : One sense-key.Post
-one-sense-key κs a r r′ s s′ e f = e ∙ sym f
-
-one-sense-code : One sense-code.Post
-one-sense-code κs a r r′ s s′ e f = e ∙ sym f
-
-one-status-of : One status-of.Post
-one-status-of κs a r r′ s s′ e f = e ∙ sym f
-
--- ---- `sections`: a call as a file has it
-one-layout-of : One layout-of.Post
-one-layout-of κs a r r′ s s′ e f = e ∙ sym f
-
-one-record-of : One record-of.Post
-one-record-of κs a r r′ s s′ e f = e ∙ sym f
-
--- ---- `line`: an answer as a line tells it
-one-line-of : One line-of.Post
-one-line-of κs a r r′ s s′ e f = e ∙ sym f
-
-one-code-text : One code-text.Post
-one-code-text κs a r r′ s s′ e f = e ∙ sym f
+-- `one-punch` is of the object
+one-punch-action : Both punch-action.Post (λ κs s. now (s .1 .1 .0))
+one-punch-action κs a r r′ s s′ e f = (e .0 ∙ sym (f .0), e .1 ∙ sym (f .1))
 
 -- ---- `engine`: the engine
 one-execute : (κs : _) (a : _) (r r′ : _) (s s′ : _)
@@ -321,6 +272,15 @@ one-execute : (κs : _) (a : _) (r r′ : _) (s s′ : _)
 one-execute κs a r r′ s s′ e f =
     let w = e ∙ sym f in
     (ap (λ (x : Answered). x .answer) w, ap (λ (x : Answered). x .slice) w, ap (λ (x : Answered). x .input) w)
+
+-- ---- `writer`: the host's writer
+one-write-command : (κs : _) (a : _) (r r′ : _) (s s′ : _)
+    → write-command.Post κs a r s → write-command.Post κs a r′ s′
+    → (r .number ≡ r′ .number)
+    × (r .size ≡ r′ .size)
+    × (now (s .1 .1 .1 .1 .1 .1 .1 .1 .1 .0) ≡ now (s′ .1 .1 .1 .1 .1 .1 .1 .1 .1 .0))
+    × (now (s .1 .1 .1 .1 .1 .1 .1 .1 .1 .1 .0) ≡ now (s′ .1 .1 .1 .1 .1 .1 .1 .1 .1 .1 .0))
+one-write-command κs a r r′ s s′ e f = (e .number ∙ sym (f .number), e .size ∙ sym (f .size), e .cdb ∙ sym (f .cdb), e .segment ∙ sym (f .segment))
 
 -- ---- `holmweder`: the C face
 one-holmweder-execute : (κs : _) (a : _) (r r′ : _) (s s′ : _)
@@ -336,7 +296,7 @@ one-holmweder-execute κs a r r′ s s′ e f =
       ap (λ (x : Seen). x .slice) w,
       ap (λ (x : Seen). x .input) w,
       ap (λ (x : Seen). x .count) w,
-      ap (λ (x : Seen). x .length) w,
+      ap (λ (x : Seen). x .logical) w,
     )
 
 one-holmweder-admission : (κs : _) (a : _) (r r′ : _) (s s′ : _)
@@ -363,3 +323,16 @@ one-holmweder-write : (κs : _) (a : _) (r r′ : _) (s s′ : _)
 one-holmweder-write κs a r r′ s s′ e f =
     let w = e ∙ sym f in
     (ap (λ (x : Written). x .number) w, ap (λ (x : Written). x .cdb) w, ap (λ (x : Written). x .segment) w, ap (λ (x : Written). x .size) w)
+
+-- ---- `callfile`: a call as a file has it, and its answer as a line
+one-layout-of : One layout-of.Post
+one-layout-of κs a r r′ s s′ e f = e ∙ sym f
+
+one-record-of : One record-of.Post
+one-record-of κs a r r′ s s′ e f = e ∙ sym f
+
+one-line-of : One line-of.Post
+one-line-of κs a r r′ s s′ e f = e ∙ sym f
+
+one-code-text : One code-text.Post
+one-code-text κs a r r′ s s′ e f = e ∙ sym f

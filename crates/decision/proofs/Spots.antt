@@ -10,10 +10,11 @@ use Rattle.rules.specs.declared.Spot.the-variants.{Absent, At}
 use Rattle.rules.specs.Bytes.{Bytes, any}
 use Rattle.rules.specs.Ranges.{reach}
 use Rattle.rules.specs.Segment.{entriesFrom}
-use Rattle.reach.specs.declared.Reach.{Reach}
-use Rattle.reach.specs.Reached.{within, lifted}
+use Rattle.ranges.specs.declared.Reach.{Reach}
+use Rattle.ranges.specs.Asked.{beyondIn}
+use Rattle.ranges.specs.Reached.{within, lifted}
 use Rattle.header.specs.declared.Parsed.{Parsed}
-use Rattle.header.specs.Ranges.{rangesIn, beyondIn}
+use Rattle.header.specs.Ranges.{rangesIn}
 use Rattle.header.proofs.Ranges.{sole-range, entry-ranges}
 
 module _ (s : Bytes) (p : Parsed) where
@@ -22,7 +23,8 @@ module _ (s : Bytes) (p : Parsed) where
   unfolding beyondIn any
   sole-beyond n e = sym (ap (λ (gs : List Range). beyondIn gs n) (sole-range s p e) ∙ or-false _)
 
-  pub entries-beyond : (n : ℕ) (d : Part) → p .found .list ≡ At d → (t : Bool) → t ≡ beyondIn (entriesFrom (d .size / 16) s (d .at)) n → t ≡ beyondIn (rangesIn s p) n
+  pub entries-beyond : (n : ℕ) (d : Part) → p .found .list ≡ At d → (t : Bool) → t ≡ beyondIn (entriesFrom (d .size / 16) s (d .at)) n
+      → t ≡ beyondIn (rangesIn s p) n
   entries-beyond n d e t q = q ∙ ap (λ (gs : List Range). beyondIn gs n) (sym (entry-ranges s p d e))
 
   -- the reach

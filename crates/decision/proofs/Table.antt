@@ -1,6 +1,6 @@
 -- The table of rows over a command that was read: each row's test by what was read, and the decision from the first that holds.
 use Prim.Native.Nat.{_-_, _≤_, _<_}
-use mathlib.Core.Path.{_≡_, refl, ap, sym, subst, _∙_}
+use mathlib.Core.Path.{_≡_, refl, ap, sym, _∙_}
 use mathlib.Core.Logic.{_⊎_, inl, inr}
 use mathlib.Core.Bool.{Bool, true, false, cond, _&&_, _||_, not, or-true, false≢true}
 use mathlib.Core.Option.{none, some}
@@ -24,13 +24,14 @@ use Rattle.rules.specs.Header.{header}
 use Rattle.rules.specs.Admission.{admitted}
 use Rattle.rules.specs.Rows.{Room, objectUnfit, listWithStart, listFault, notAdmitted, startsBeyond, bufferShort, raised, noRoom, rows, refusal}
 use Rattle.rules.proofs.First.{hit, skip, none-left, ahead, behind}
-use Rattle.rules.proofs.Segment.{sound-found}
-use Rattle.entries.specs.Asked.{faultIn}
-use Rattle.reach.specs.declared.Reach.the-variants.{Within, Beyond}
+use Rattle.ranges.specs.Asked.{faultIn, beyondIn}
+use Rattle.ranges.specs.declared.Reach.the-variants.{Within, Beyond}
 use Rattle.header.specs.declared.Parsed.{Parsed}
 use Rattle.header.specs.declared.Reading.the-variants.{Unreadable}
 use Rattle.header.specs.Reading.{saidBy, readingOf}
-use Rattle.header.specs.Ranges.{ListsAt, rangesAt, rangesIn, beyondIn}
+use Rattle.segment.specs.Lying.{ListAt}
+use Rattle.segment.proofs.Lying.{list-found}
+use Rattle.header.specs.Ranges.{rangesAt, rangesIn}
 use Rattle.header.proofs.Rows.{Says, says, says-segment, unreadable}
 use Rattle.decision.specs.declared.Decision.{Decision}
 use Rattle.decision.specs.declared.Decision.the-variants.{Refuse}
@@ -94,15 +95,8 @@ module _ (c : Command) (m : Room) (p : Parsed) (o : Open c m p) where
   pub part-ends : p .segment ≤ length (c .out)
   part-ends = says-segment c p said .1
 
-  lists : ListsAt (segment c) (p .found .list)
-  lists = go (p .found .list) (ap (λ (f : Found). f .list) found-is)
-    where
-      go : (x : Spot) → found c .list ≡ x → ListsAt (segment c) x
-      go Absent e = tt
-      go (At d) e = let l = sound-found c .list d e in record { inside = l .through .inside; few = l .through .small }
-
-  pub part-lists : ListsAt (take (p .segment - 0) (c .out)) (p .found .list)
-  part-lists = subst (λ (s : Bytes). ListsAt s (p .found .list)) (sym part-is) lists
+  pub part-lists : ListAt (take (p .segment - 0) (c .out)) (p .found .list)
+  part-lists = rw (part-is, ← found-is) (list-found c)
 
   pub held : c .on .length ≤ m .slice
   unfolding objectUnfit
@@ -135,7 +129,9 @@ module _ (c : Command) (m : Room) (p : Parsed) (o : Open c m p) where
   row10 = go (p .found .list) (ap (λ (f : Found). f .list) found-is)
     where
       go : (x : Spot) → found c .list ≡ x
-          → (present (found c .list) && (not (eqb (total (rangesOf (found c .list) c)) (lengthOf (c .cdb))) || asks (verb c) isWrite && overlapping (rangesOf (found c .list) c)))
+          → (present (found c .list)
+          && (not (eqb (total (rangesOf (found c .list) c)) (lengthOf (c .cdb))) || asks (verb c) isWrite && overlapping
+          (rangesOf (found c .list) c)))
           ≡ faultAt x (segment c) p
       go Absent e = rw e
       go (At d) e = rw (e, said .verb, size-is)

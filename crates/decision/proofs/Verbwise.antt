@@ -13,36 +13,36 @@ use Rattle.rules.specs.Bytes.{Bytes}
 use Rattle.rules.specs.Command.{isWrite}
 use Rattle.rules.specs.Ranges.{reach}
 use Rattle.rules.specs.Segment.{entriesFrom}
-use Rattle.entries.specs.Asked.{faultIn}
-use Rattle.reach.specs.declared.Reach.{Reach}
-use Rattle.reach.specs.declared.Reach.the-variants.{Within, Beyond}
-use Rattle.reach.specs.Reached.{within}
-use Rattle.reach.proofs.Reaches.{was-within, was-beyond}
+use Rattle.ranges.specs.Asked.{faultIn, beyondIn}
+use Rattle.ranges.specs.declared.Reach.{Reach}
+use Rattle.ranges.specs.declared.Reach.the-variants.{Within, Beyond}
+use Rattle.ranges.specs.Reached.{within}
+use Rattle.ranges.proofs.Reaches.{was-within, was-beyond}
 use Rattle.header.specs.declared.Parsed.{Parsed}
-use Rattle.header.specs.Ranges.{rangesIn, beyondIn}
+use Rattle.header.specs.Ranges.{rangesIn}
 use Rattle.decision.specs.declared.Decision.{Decision}
 use Rattle.decision.specs.declared.Decision.the-variants.{Refuse}
 use Rattle.decision.specs.Decisions.{faultAt, roomFor, reads, writes, clears, punches, writesTo, clearsTo}
 
 -- ---- row 14: the length that is left
-module _ (length maximum slice raised : ℕ) (h : length ≤ slice) (w : Reach) (e : w ≡ within slice raised) where
-  pub no-room : w ≡ Beyond → Beyond ≡ roomFor length maximum slice raised
+module _ (logical maximum slice raised : ℕ) (h : logical ≤ slice) (w : Reach) (e : w ≡ within slice raised) where
+  pub no-room : w ≡ Beyond → Beyond ≡ roomFor logical maximum slice raised
   unfolding roomFor
-  no-room q = let l = was-beyond slice raised (sym e ∙ q) in rw (lt-ltb length raised (omega arith), lt-ltb slice raised l, or-true)
+  no-room q = let l = was-beyond slice raised (sym e ∙ q) in rw (lt-ltb logical raised (omega arith), lt-ltb slice raised l, or-true)
 
   module _ (n : ℕ) (q : w ≡ Within n) where
     is-n : (raised ≡ n) × (raised ≤ slice)
     is-n = was-within slice raised n (sym e ∙ q)
 
-    pub above-maximum : length < n → maximum < n → Beyond ≡ roomFor length maximum slice raised
+    pub above-maximum : logical < n → maximum < n → Beyond ≡ roomFor logical maximum slice raised
     unfolding roomFor
     above-maximum l m = rw (is-n .0, lt-ltb _ _ l, lt-ltb _ _ m)
 
-    pub below-maximum : n ≤ maximum → Within n ≡ roomFor length maximum slice raised
+    pub below-maximum : n ≤ maximum → Within n ≡ roomFor logical maximum slice raised
     unfolding roomFor
     below-maximum m = let k : n ≤ slice = omega (arith, is-n .0, is-n .1) in rw (is-n .0, le-ltb _ _ m, le-ltb _ _ k, and-false)
 
-    pub not-raised : n ≤ length → Within n ≡ roomFor length maximum slice raised
+    pub not-raised : n ≤ logical → Within n ≡ roomFor logical maximum slice raised
     unfolding roomFor
     not-raised l = rw (is-n .0, le-ltb _ _ l)
 

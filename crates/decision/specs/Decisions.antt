@@ -16,19 +16,19 @@ use Rattle.rules.specs.Reading.{found}
 use Rattle.rules.specs.Rows.{Room, objectUnfit, listWithStart, listFault, notAdmitted, raised, refusal}
 use Rattle.rules.specs.Ranges.{reach}
 use Rattle.rules.specs.Segment.{entriesFrom}
-use Rattle.entries.specs.Asked.{faultIn}
-use Rattle.reach.specs.declared.Reach.{Reach}
-use Rattle.reach.specs.declared.Reach.the-variants.{Within, Beyond}
+use Rattle.ranges.specs.Asked.{faultIn, beyondIn}
+use Rattle.ranges.specs.declared.Reach.{Reach}
+use Rattle.ranges.specs.declared.Reach.the-variants.{Within, Beyond}
 use Rattle.header.specs.declared.Parsed.{Parsed}
 use Rattle.header.specs.declared.Reading.the-variants.{Readable}
 use Rattle.header.specs.Reading.{saidBy, readingOf}
-use Rattle.header.specs.Ranges.{rangesIn, beyondIn}
+use Rattle.header.specs.Ranges.{rangesIn}
 use Rattle.decision.specs.declared.Decision.{Decision}
 use Rattle.decision.specs.declared.Decision.the-variants.{Refuse}
 
 -- row 14: the length that is left, unless it would rise above the maximum or the slice
-unfoldable pub roomFor : (length maximum slice raised : ℕ) → Reach
-roomFor length maximum slice n = cond (ltb length n && (ltb maximum n || ltb slice n)) Beyond (Within n)
+unfoldable pub roomFor : (logical maximum slice raised : ℕ) → Reach
+roomFor logical maximum slice n = cond (ltb logical n && (ltb maximum n || ltb slice n)) Beyond (Within n)
 
 -- what is decided of a call: the refusal, or what is to be carried out. Row 3 refuses a command without a verb, so the second line is never reached.
 abbrev pub decided : Option Refusal → Option Verb → Command → Decision
@@ -58,7 +58,7 @@ pub record LetIn (c : Command) (m : Room) (p : Parsed) : Type 0 where
   pub admitted : notAdmitted c ≡ false
 
 -- rows 12 to 14 by the verb, of a command that was read
-unfoldable pub reads : (s : Bytes) → Parsed → (length input : ℕ) → Decision
+unfoldable pub reads : (s : Bytes) → Parsed → (logical input : ℕ) → Decision
 reads s p n input =
     cond (beyondIn (rangesIn s p) n) (Refuse StartsBeyond) (cond (ltb input (p .size)) (Refuse BufferShort) (Decision.Read p))
 
@@ -78,7 +78,7 @@ clearsTo p (Within n) = Decision.Clear p n
 unfoldable pub clears : (s : Bytes) → Parsed → Record → (slice : ℕ) → Decision
 clears s p on slice = clearsTo p (roomFor (on .length) (on .maximum) slice (reach (on .length) (rangesIn s p)))
 
-unfoldable pub punches : (s : Bytes) → Parsed → (length : ℕ) → Decision
+unfoldable pub punches : (s : Bytes) → Parsed → (logical : ℕ) → Decision
 punches s p n = cond (beyondIn (rangesIn s p) n) (Refuse StartsBeyond) (Decision.Punch p)
 
 -- row 10, of a command that was read

@@ -2,7 +2,7 @@
 // lengths of what is lent, and none of the bytes of the object or of Data-In.
 use header::Parsed;
 use header::Reading;
-use reach::Reach;
+use ranges::Reach;
 use rules::Range;
 use rules::Record;
 use rules::Refusal;
@@ -15,9 +15,11 @@ ghost use lib.Dec.{eqb};
 ghost use Rattle.rules.specs.Ranges.{reach};
 ghost use Rattle.rules.specs.Command.{isWrite};
 ghost use Rattle.rules.specs.Reading.{present};
-ghost use Rattle.reach.specs.Reached.{within};
+ghost use Rattle.segment.specs.Lying.{ListAt};
+ghost use Rattle.ranges.specs.Asked.{beyondIn};
+ghost use Rattle.ranges.specs.Reached.{within};
 ghost use Rattle.header.specs.Reading.{command};
-ghost use Rattle.header.specs.Ranges.{ListsAt, rangesIn, beyondIn};
+ghost use Rattle.header.specs.Ranges.{rangesIn};
 ghost use Rattle.decision.specs.Decisions.{faultAt, roomFor, reads, writes, clears, punches, decisionOf, room, Open, LetIn};
 
 // What is to be done with a call. WRITE and CLEAR come with the logical length that they leave.
@@ -30,20 +32,20 @@ pub enum Decision {
 }
 
 fn starts_beyond(s: &[u8], said: Parsed, logical: u64) -> bool
-    requires { ⌜ ListsAt (now s) (said .found .list) ⌝ }
+    requires { ⌜ ListAt (now s) (said .found .list) ⌝ }
     ensures { λ r. ⌜ r ≡ beyondIn (rangesIn (now (s .entry)) said) logical ⌝ }
 {
     let found = said.found;
     let list = found.list;
     match list {
         Spot::Absent => logical < said.start,
-        Spot::At(part) => entries::starts_beyond_in(s, part, logical),
+        Spot::At(part) => ranges::starts_beyond_in(s, part, logical),
     }
 }
 
 // Row 14: the logical length that WRITE or CLEAR leaves, where there is room for it.
 fn room_for(s: &[u8], said: Parsed, on: Record, slice: usize) -> Reach
-    requires { ⌜ (on .length ≤ slice) × ListsAt (now s) (said .found .list) ⌝ }
+    requires { ⌜ (on .length ≤ slice) × ListAt (now s) (said .found .list) ⌝ }
     ensures { λ r. ⌜ r ≡ roomFor (on .length) (on .maximum) slice (reach (on .length) (rangesIn (now (s .entry)) said)) ⌝ }
 {
     let reached = reach_of(s, said, on.length as usize, slice);
@@ -61,13 +63,13 @@ fn room_for(s: &[u8], said: Parsed, on: Record, slice: usize) -> Reach
 }
 
 fn reach_of(s: &[u8], said: Parsed, reached: usize, limit: usize) -> Reach
-    requires { ⌜ (reached ≤ limit) × ListsAt (now s) (said .found .list) ⌝ }
+    requires { ⌜ (reached ≤ limit) × ListAt (now s) (said .found .list) ⌝ }
     ensures { λ r. ⌜ r ≡ within limit (reach reached (rangesIn (now (s .entry)) said)) ⌝ }
 {
     let found = said.found;
     let list = found.list;
     match list {
-        Spot::Absent => reach::reach_more(
+        Spot::Absent => ranges::reach_more(
             reached,
             Range {
                 start: said.start,
@@ -75,13 +77,13 @@ fn reach_of(s: &[u8], said: Parsed, reached: usize, limit: usize) -> Reach
             },
             limit,
         ),
-        Spot::At(part) => reach::reach_in(s, part, reached, limit),
+        Spot::At(part) => ranges::reach_in(s, part, reached, limit),
     }
 }
 
 // Rows 12 to 14, verb by verb.
 fn decide_read(s: &[u8], said: Parsed, on: Record, input: usize) -> Decision
-    requires { ⌜ ListsAt (now s) (said .found .list) ⌝ }
+    requires { ⌜ ListAt (now s) (said .found .list) ⌝ }
     ensures { λ r. ⌜ r ≡ reads (now (s .entry)) said (on .length) input ⌝ }
 {
     if starts_beyond(s, said, on.length) {
@@ -94,7 +96,7 @@ fn decide_read(s: &[u8], said: Parsed, on: Record, input: usize) -> Decision
 }
 
 fn decide_write(s: &[u8], said: Parsed, on: Record, slice: usize, supplied: usize) -> Decision
-    requires { ⌜ (on .length ≤ slice) × ListsAt (now s) (said .found .list) ⌝ }
+    requires { ⌜ (on .length ≤ slice) × ListAt (now s) (said .found .list) ⌝ }
     ensures { λ r. ⌜ r ≡ writes (now (s .entry)) said on slice supplied ⌝ }
 {
     if (supplied as u64) < said.size {
@@ -108,7 +110,7 @@ fn decide_write(s: &[u8], said: Parsed, on: Record, slice: usize, supplied: usiz
 }
 
 fn decide_clear(s: &[u8], said: Parsed, on: Record, slice: usize) -> Decision
-    requires { ⌜ (on .length ≤ slice) × ListsAt (now s) (said .found .list) ⌝ }
+    requires { ⌜ (on .length ≤ slice) × ListAt (now s) (said .found .list) ⌝ }
     ensures { λ r. ⌜ r ≡ clears (now (s .entry)) said on slice ⌝ }
 {
     let room = room_for(s, said, on, slice);
@@ -119,7 +121,7 @@ fn decide_clear(s: &[u8], said: Parsed, on: Record, slice: usize) -> Decision
 }
 
 fn decide_punch(s: &[u8], said: Parsed, on: Record) -> Decision
-    requires { ⌜ ListsAt (now s) (said .found .list) ⌝ }
+    requires { ⌜ ListAt (now s) (said .found .list) ⌝ }
     ensures { λ r. ⌜ r ≡ punches (now (s .entry)) said (on .length) ⌝ }
 {
     if starts_beyond(s, said, on.length) {
@@ -176,7 +178,7 @@ fn has_wrong_start(said: Parsed) -> bool
 
 // Row 10.
 fn has_fault(s: &[u8], said: Parsed) -> bool
-    requires { ⌜ ListsAt (now s) (said .found .list) ⌝ }
+    requires { ⌜ ListAt (now s) (said .found .list) ⌝ }
     ensures { λ r. ⌜ r ≡ faultAt (said .found .list) (now (s .entry)) said ⌝ }
 {
     let found = said.found;
@@ -184,7 +186,7 @@ fn has_fault(s: &[u8], said: Parsed) -> bool
     let verb = said.verb;
     match list {
         Spot::Absent => false,
-        Spot::At(part) => entries::is_list_fault(s, part, said.size, is_write(verb)),
+        Spot::At(part) => ranges::is_list_fault(s, part, said.size, is_write(verb)),
     }
 }
 

@@ -1,4 +1,4 @@
--- From the decision to the deed: what was decided says which answer is wanted, and that nothing hinders it.
+-- From the decision to the action: what was decided says which answer is wanted, and that nothing hinders it.
 use Prim.Native.Nat.{ℕ, _+_, _-_, _≤_}
 use mathlib.Core.Path.{_≡_, refl, ap, sym, subst, _∙_}
 use mathlib.Core.Bool.{cond}
@@ -30,14 +30,14 @@ use Rattle.rules.proofs.Punch.{begins-within}
 use Rattle.header.specs.declared.Parsed.{Parsed}
 use Rattle.header.specs.declared.Reading.the-variants.{Readable}
 use Rattle.header.specs.Reading.{saidBy}
-use Rattle.header.specs.Ranges.{rangesIn, beyondIn}
+use Rattle.header.specs.Ranges.{rangesIn}
 use Rattle.header.proofs.Rows.{read-by}
 use Rattle.decision.specs.declared.Decision.{Decision}
 use Rattle.decision.specs.declared.Decision.the-variants.{Refuse}
 use Rattle.decision.specs.Decisions.{decided, decisionOf, room, Open}
 use Rattle.decision.proofs.Table.{start-is, size-is, end-is, ranges-are, part-is, part-ends, part-lists}
-use Rattle.spread.specs.Spread.{sole, ForRead, ForWrite}
-use Rattle.deeds.specs.Deeds.{ForClear, ForPunch}
+use Rattle.object.specs.Ready.{sole, ForRead, ForWrite}
+use Rattle.actions.specs.Ready.{ForClear, ForPunch}
 use Rattle.engine.specs.Promise.{whole}
 
 -- rows 2 to 8 don't refuse what no row refuses
@@ -91,7 +91,7 @@ wanted c s i = go (refusal c (room (length s) (length i))) (verb c)
     go none (some Clear) = refl
     go none (some Punch) = refl
 
--- ---- a deed that is taken
+-- ---- an action that is taken
 module _ {c : Command} {m : Room} {v : Verb} {p : Parsed} (t : Taken c m v p) where
   passes : Passed c m
   passes = passed c m (t .accepted)
@@ -137,7 +137,6 @@ module _ (c : Command) (s i : Bytes) (d : Decision) (is : d ≡ decisionOf c (ro
     read-ends = ends t-read
 
     pub for-read : ForRead (take (p .segment - 0) (c .out)) p (c .on .length) (length s) (length i)
-    unfolding beyondIn
     for-read =
         record {
           held = given.held (passes t-read);

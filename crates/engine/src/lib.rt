@@ -1,4 +1,4 @@
-// The engine: decide, then carry out. The decision writes nothing and the deed can't fail, so a command is carried out
+// The engine: decide, then carry out. The decision writes nothing and the action can't fail, so a command is carried out
 // whole, or refused with nothing altered.
 use decision::Decision;
 use rules::Answer;
@@ -19,13 +19,13 @@ pub fn execute(cdb: &[u8], out: &[u8], on: Record, slice: &mut [u8], input: &mut
         },
         Decision::Read(said) => {
             let end = said.segment;
-            deeds::read(&out[0..end], said, on, slice, input)
+            actions::read(&out[0..end], said, on, slice, input)
         }
         Decision::Write(said, raised) => {
             let end = said.segment;
-            deeds::write(&out[0..end], said, on, raised, out, slice)
+            actions::write(&out[0..end], said, on, raised, out, slice)
         }
-        Decision::Clear(said, raised) => deeds::clear(said, on, raised, slice),
-        Decision::Punch(said) => deeds::punch(said, on, slice),
+        Decision::Clear(said, raised) => actions::clear(said, on, raised, slice),
+        Decision::Punch(said) => actions::punch(said, on, slice),
     }
 }

@@ -1,6 +1,6 @@
--- A command with a list, and one without: where its list lies, and what its ranges are.
+-- A command with a list, and one without: what its ranges are.
 use Prim.Native.Nat.{_/_}
-use mathlib.Core.Path.{_≡_, ap, subst}
+use mathlib.Core.Path.{_≡_, ap}
 use mathlib.Core.List.{[], _∷_}
 use Rattle.rules.specs.declared.Part.{Part}
 use Rattle.rules.specs.declared.Spot.{Spot}
@@ -8,10 +8,7 @@ use Rattle.rules.specs.declared.Spot.the-variants.{Absent, At}
 use Rattle.rules.specs.Bytes.{Bytes}
 use Rattle.rules.specs.Segment.{entriesFrom}
 use Rattle.header.specs.declared.Parsed.{Parsed}
-use Rattle.header.specs.Ranges.{Lists, ListsAt, rangesAt, rangesIn}
-
-pub list-lies : (s : Bytes) (x : Spot) (d : Part) → ListsAt s x → x ≡ At d → Lists s d
-list-lies s x d l e = subst (λ (y : Spot). ListsAt s y) e l
+use Rattle.header.specs.Ranges.{rangesAt, rangesIn}
 
 pub sole-range : (s : Bytes) (p : Parsed) → p .found .list ≡ Absent → rangesIn s p ≡ record { start = p .start; size = p .size } ∷ []
 unfolding rangesIn

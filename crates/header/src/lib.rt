@@ -1,5 +1,6 @@
-// Rows 2 to 8 of the table of numbers as one decision: whether a command can be read, and what it then says.
-// The engine and the admission question share it, so that nobody tests these rows twice in different words.
+// Rows 2 to 8 of the table of numbers: whether a command can be read, and what it then says. They are three questions, of the CDB
+// alone, of the object that it names and of its segment, and one that asks them in order, which the engine and the admission
+// question share: so nobody tests these rows twice in different words.
 use rules::Found;
 use rules::Record;
 use rules::Refusal;
@@ -13,11 +14,14 @@ ghost use lib.Dec.{eqb, ltb};
 ghost use lib.ListN.{length};
 ghost use Rattle.rules.specs.Bytes.{byte, field};
 ghost use Rattle.rules.specs.Command.{verbOf, isClear, isPunch};
+ghost use Rattle.rules.specs.Header.{cdbMalformed};
 ghost use Rattle.rules.specs.Reading.{present};
 ghost use Rattle.rules.specs.Segment.{walk, nothing};
-ghost use Rattle.header.specs.Reading.{named, command, saidBy, readingOf, Begun, Opened};
+ghost use Rattle.rules.specs.declared.Record.{Record};
+ghost use Rattle.header.specs.declared.Reading.the-variants.{Readable};
+ghost use Rattle.header.specs.Reading.{named, command, saidBy, frontOf, otherThan, Opened, segmentOf, readingOf};
 
-// What a command says that can be read.
+// What a command says that can be read. Of the CDB alone, nothing is found yet.
 pub struct Parsed {
     pub verb: Verb,
     pub partition: u64,
@@ -28,19 +32,20 @@ pub struct Parsed {
     pub found: Found,
 }
 
+// The first row that refuses a command, of those that were asked, or what it says.
 pub enum Reading {
     Unreadable(Refusal),
     Readable(Parsed),
 }
 
-pub enum Named {
+enum Named {
     Known(Verb),
     Unknown,
 }
 
 // Row 2.
 fn is_malformed(cdb: &[u8]) -> bool
-    ensures { λ r. ⌜ r ≡ (not (eqb (length (now (cdb .entry))) 236) || not (eqb (byte 0 (now (cdb .entry))) 0x7F) || not (eqb (byte 7 (now (cdb .entry))) 228)) ⌝ }
+    ensures { λ r. ⌜ r ≡ cdbMalformed (now (cdb .entry)) ⌝ }
 {
     if cdb.len() != 236 {
         return true;
@@ -52,22 +57,65 @@ fn is_malformed(cdb: &[u8]) -> bool
 }
 
 // Row 3.
-fn verb_named(action: u16) -> Named
+fn verb_named(action: u64) -> Named
     ensures { λ r. ⌜ r ≡ named (verbOf action) ⌝ }
 {
-    if action == 0x8885 {
+    if action == rules::READ {
         return Named::Known(Verb::Read);
     }
-    if action == 0x8886 {
+    if action == rules::WRITE {
         return Named::Known(Verb::Write);
     }
-    if action == 0x8889 {
+    if action == rules::CLEAR {
         return Named::Known(Verb::Clear);
     }
-    if action == 0x8884 {
+    if action == rules::PUNCH {
         return Named::Known(Verb::Punch);
     }
     Named::Unknown
+}
+
+// What a CDB says, before a segment is looked at.
+fn said_by(cdb: &[u8], verb: Verb) -> Parsed
+    requires { ⌜ length (now cdb) ≡ 236 ⌝ }
+    ensures { λ r. ⌜ r ≡ saidBy verb (now (cdb .entry)) nothing ⌝ }
+{
+    Parsed {
+        verb: verb,
+        partition: wire::get64(cdb, 16),
+        object: wire::get64(cdb, 24),
+        start: wire::get64(cdb, 40),
+        size: wire::get64(cdb, 32),
+        segment: wire::get32(cdb, 48) as usize,
+        found: Found {
+            list: Spot::Absent,
+            extension: Spot::Absent,
+        },
+    }
+}
+
+// Rows 2 and 3, of the CDB alone.
+pub fn read_front(cdb: &[u8]) -> Reading
+    ensures { λ r. ⌜ r ≡ frontOf (now (cdb .entry)) ⌝ }
+{
+    if is_malformed(cdb) {
+        return Reading::Unreadable(Refusal::CdbMalformed);
+    }
+    let named = verb_named(wire::get16(cdb, 8) as u64);
+    match named {
+        Named::Unknown => Reading::Unreadable(Refusal::ActionUnknown),
+        Named::Known(verb) => Reading::Readable(said_by(cdb, verb)),
+    }
+}
+
+// Row 4: whether a command names another object than the record's.
+pub fn is_other(said: Parsed, on: Record) -> bool
+    ensures { λ r. ⌜ r ≡ otherThan said on ⌝ }
+{
+    if said.partition != on.partition {
+        return true;
+    }
+    said.object != on.object
 }
 
 // Row 5.
@@ -119,16 +167,16 @@ fn is_forbidden(verb: Verb, list: Spot) -> bool
 }
 
 // Rows 6 to 8, of a command that has a segment.
-fn read_segment(cdb: &[u8], out: &[u8], on: Record, action: u16, said: Parsed) -> Reading
-    requires { ⌜ Opened (command (now cdb) (now out) on) action said ⌝ }
-    ensures { λ r. ⌜ r ≡ readingOf (command (now (cdb .entry)) (now (out .entry)) on) ⌝ }
+fn read_descriptors(cdb: &[u8], out: &[u8], said: Parsed) -> Reading
+    requires { ⌜ Opened (now cdb) (now out) said ⌝ }
+    ensures { λ r. ⌜ ((on : Record) → r ≡ segmentOf (command (now (cdb .entry)) (now (out .entry)) on)) ⌝ }
 {
     let end = said.segment;
     let segment = &out[0..end];
-    if is_wrong_head(segment, action) {
+    if is_wrong_head(segment, wire::get16(cdb, 8)) {
         return Reading::Unreadable(Refusal::SegmentHeader);
     }
-    let walk = walk::walk_over(segment);
+    let walk = segment::walk_over(segment);
     match walk {
         Walk::Broken(_, _) => Reading::Unreadable(Refusal::Descriptor),
         Walk::Whole(found) => {
@@ -144,58 +192,33 @@ fn read_segment(cdb: &[u8], out: &[u8], on: Record, action: u16, said: Parsed) -
     }
 }
 
-// What a CDB says, before a segment is looked at.
-fn said_by(cdb: &[u8], verb: Verb) -> Parsed
-    requires { ⌜ length (now cdb) ≡ 236 ⌝ }
-    ensures { λ r. ⌜ r ≡ saidBy verb (now (cdb .entry)) nothing ⌝ }
+// Rows 5 to 8, of a CDB that says so much by itself, and of Data-Out. Whose object it is doesn't matter.
+pub fn read_segment(cdb: &[u8], out: &[u8], said: Parsed) -> Reading
+    requires { ⌜ frontOf (now cdb) ≡ Readable said ⌝ }
+    ensures { λ r. ⌜ ((on : Record) → r ≡ segmentOf (command (now (cdb .entry)) (now (out .entry)) on)) ⌝ }
 {
-    Parsed {
-        verb: verb,
-        partition: wire::get64(cdb, 16),
-        object: wire::get64(cdb, 24),
-        start: wire::get64(cdb, 40),
-        size: wire::get64(cdb, 32),
-        segment: wire::get32(cdb, 48) as usize,
-        found: Found {
-            list: Spot::Absent,
-            extension: Spot::Absent,
-        },
-    }
-}
-
-// Rows 4 and 5, of a command whose verb is known, and the other rows above them.
-fn read_known(cdb: &[u8], out: &[u8], on: Record, action: u16, verb: Verb) -> Reading
-    requires { ⌜ Begun (command (now cdb) (now out) on) action verb ⌝ }
-    ensures { λ r. ⌜ r ≡ readingOf (command (now (cdb .entry)) (now (out .entry)) on) ⌝ }
-{
-    let said = said_by(cdb, verb);
-    if said.partition != on.partition {
-        return Reading::Unreadable(Refusal::OtherObject);
-    }
-    if said.object != on.object {
-        return Reading::Unreadable(Refusal::OtherObject);
-    }
-    let continuation = said.segment;
-    if is_wrong_length(continuation, out.len()) {
+    let end = said.segment;
+    if is_wrong_length(end, out.len()) {
         return Reading::Unreadable(Refusal::ContinuationLength);
     }
-    if continuation == 0 {
+    if end == 0 {
         return Reading::Readable(said);
     }
-    read_segment(cdb, out, on, action, said)
+    read_descriptors(cdb, out, said)
 }
 
 // Whether a command can be read: the first of rows 2 to 8 that refuses it, or what it says.
 pub fn read_command(cdb: &[u8], out: &[u8], on: Record) -> Reading
     ensures { λ r. ⌜ r ≡ readingOf (command (now (cdb .entry)) (now (out .entry)) on) ⌝ }
 {
-    if is_malformed(cdb) {
-        return Reading::Unreadable(Refusal::CdbMalformed);
-    }
-    let action = wire::get16(cdb, 8);
-    let named = verb_named(action);
-    match named {
-        Named::Unknown => Reading::Unreadable(Refusal::ActionUnknown),
-        Named::Known(verb) => read_known(cdb, out, on, action, verb),
+    let front = read_front(cdb);
+    match front {
+        Reading::Unreadable(refusal) => Reading::Unreadable(refusal),
+        Reading::Readable(said) => {
+            if is_other(said, on) {
+                return Reading::Unreadable(Refusal::OtherObject);
+            }
+            read_segment(cdb, out, said)
+        }
     }
 }

@@ -11,7 +11,7 @@ use Rattle.question.specs.declared.Place.{Place}
 use Rattle.question.specs.declared.Place.the-variants.{Nowhere, InCdb, InOut}
 
 -- the record and a range, as they come in
-abbrev pub recordOf : (partition object length maximum tag epoch : ℕ) → Record
+abbrev pub recordOf : (partition object logical maximum tag epoch : ℕ) → Record
 recordOf p o n m t e = record { partition = p; object = o; length = n; maximum = m; tag = t; epoch = e }
 
 abbrev pub rangeOf : (start size : ℕ) → Range
@@ -21,12 +21,12 @@ rangeOf at n = record { start = at; size = n }
 pub record Seen : Type 0 where
   pub number : ℕ
   pub count : ℕ
-  pub length : ℕ
+  pub logical : ℕ
   pub slice : Bytes
   pub input : Bytes
 
-abbrev pub seen : (number count length : ℕ) → (slice input : Bytes) → Seen
-seen k n l s i = record { number = k; count = n; length = l; slice = s; input = i }
+abbrev pub seen : (number count logical : ℕ) → (slice input : Bytes) → Seen
+seen k n l s i = record { number = k; count = n; logical = l; slice = s; input = i }
 
 abbrev pub seenOf : Answered → Seen
 seenOf a = seen (number (a .answer .outcome)) (a .answer .count) (a .answer .next .length) (a .slice) (a .input)

@@ -22,7 +22,7 @@ pub extern "C" fn holmweder_execute(
     out: &[u8],
     partition: u64,
     object: u64,
-    length: u64,
+    logical: u64,
     maximum: u64,
     tag: u32,
     epoch: u16,
@@ -32,13 +32,13 @@ pub extern "C" fn holmweder_execute(
     next_length: &mut u64,
 ) -> u32
     ensures { λ r. ⌜ seen r (now (count .exit)) (now («next_length» .exit)) (now (slice .exit)) (now (input .exit))
-        ≡ seenOf (answered (command (now (cdb .entry)) (now (out .entry)) (recordOf partition object length maximum tag epoch))
+        ≡ seenOf (answered (command (now (cdb .entry)) (now (out .entry)) (recordOf partition object logical maximum tag epoch))
         (now (slice .entry)) (now (input .entry))) ⌝ }
 {
     let on = Record {
         partition,
         object,
-        length,
+        length: logical,
         maximum,
         tag,
         epoch,
@@ -58,7 +58,7 @@ pub extern "C" fn holmweder_admission(
     out: &[u8],
     partition: u64,
     object: u64,
-    length: u64,
+    logical: u64,
     maximum: u64,
     tag: u32,
     epoch: u16,
@@ -67,13 +67,13 @@ pub extern "C" fn holmweder_admission(
     offset: &mut u64,
 ) -> u32
     ensures { λ r. ⌜ Told
-        (placeOf (question (command (now (cdb .entry)) (now (out .entry)) (recordOf partition object length maximum tag epoch)) (rangeOf start size)))
+        (placeOf (question (command (now (cdb .entry)) (now (out .entry)) (recordOf partition object logical maximum tag epoch)) (rangeOf start size)))
         r (now (offset .exit)) ⌝ }
 {
     let on = Record {
         partition,
         object,
-        length,
+        length: logical,
         maximum,
         tag,
         epoch,

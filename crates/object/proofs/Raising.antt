@@ -75,7 +75,8 @@ module _ (n : ℕ) (g : Range) (s : Bytes) (room : reach n (g ∷ []) ≤ length
         new h =
             ⊎-elim
             (λ (k : p < g .start). grown-zero n _ s (omega arith) low p h (omega arith) ∙ sym (grown-zero n _ s (omega arith) inside p h (omega arith)))
-            (λ (k : g .start + g .size ≤ p). grown-other n _ s (omega arith) low p (inr (omega arith)) ∙ sym (grown-other n _ s (omega arith) inside p (inr (omega arith))))
+            (λ (k : g .start + g .size ≤ p). grown-other n _ s (omega arith) low p (inr (omega arith))
+            ∙ sym (grown-other n _ s (omega arith) inside p (inr (omega arith))))
             out
 
     long : length (grown n (max n (g .start)) s) ≡ length s

@@ -11,7 +11,7 @@ use Rattle.rules.specs.declared.Spot.the-variants.{Absent, At}
 use Rattle.rules.specs.Bytes.{Bytes, part}
 use Rattle.capability.specs.declared.Sought.{Sought}
 use Rattle.header.specs.declared.Parsed.{Parsed}
-use Rattle.sought.specs.Sought.{soughtBy, admitsIn}
+use Rattle.capability.specs.Sought.{soughtBy, admitsIn}
 use Rattle.question.specs.declared.Place.{Place}
 use Rattle.question.specs.declared.Place.the-variants.{Nowhere, InCdb, InOut}
 use Rattle.question.specs.Places.{firstFrom, firstIn, Handed}

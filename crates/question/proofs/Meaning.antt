@@ -22,8 +22,9 @@ use Rattle.header.specs.declared.Reading.{Reading}
 use Rattle.header.specs.declared.Reading.the-variants.{Unreadable, Readable}
 use Rattle.header.specs.Reading.{saidBy, readingOf}
 use Rattle.header.proofs.Rows.{Says, says, unreadable}
-use Rattle.sought.specs.Sought.{LyingAt, soughtBy, admitsIn}
-use Rattle.sought.proofs.Meaning.{saidIn, soughtIn, admits-is, firstBy, says-reads, part-is}
+use Rattle.segment.specs.Lying.{ExtensionAt}
+use Rattle.capability.specs.Sought.{soughtBy, admitsIn}
+use Rattle.capability.proofs.Meaning.{saidIn, soughtIn, admits-is, firstBy, says-reads, part-is}
 use Rattle.question.specs.declared.Place.{Place}
 use Rattle.question.specs.declared.Place.the-variants.{Nowhere, InCdb, InOut}
 use Rattle.question.specs.Places.{placeOf, firstAt, firstFrom, firstSpot, firstIn}
@@ -36,7 +37,8 @@ module _ (v : Verb) (c : Command) where
   unfolding firstOf
   chosen g k ks w is rest r = go (admits v c g k) (admits-is v c g k)
     where
-      go : (b : Bool) → b ≡ admitsIn (soughtIn v c) g (k .bytes) → placeOf (cond b (some k) (firstBy v c g ks)) ≡ cond (admitsIn (soughtIn v c) g (k .bytes)) w rest
+      go : (b : Bool) → b ≡ admitsIn (soughtIn v c) g (k .bytes)
+          → placeOf (cond b (some k) (firstBy v c g ks)) ≡ cond (admitsIn (soughtIn v c) g (k .bytes)) w rest
       go true e = rw (← e) is
       go false e = rw (← e) r
 
@@ -66,7 +68,8 @@ module _ (c : Command) (p : Parsed) (s : Says c p) where
   unfolding question readable admittingFor
   says-question g = rw (s .passes, s .verb) (says-first g)
 
-pub refuses-question : (c : Command) (w : Rattle.rules.specs.declared.Refusal.Refusal) (g : Range) → firstOf (header c) ≡ some w → Nowhere ≡ placeOf (question c g)
+pub refuses-question : (c : Command) (w : Rattle.rules.specs.declared.Refusal.Refusal) (g : Range) → firstOf (header c) ≡ some w
+    → Nowhere ≡ placeOf (question c g)
 unfolding question readable
 refuses-question c w g e = rw e
 
@@ -87,7 +90,7 @@ place-inside t s (suc n) start at e = go (t (part start 104 s)) e (place-inside 
     go true q r = let z : start ≡ at = cc in omega arith
     go false q r = let z = r q in omega arith
 
-spot-inside : (t : Bytes → Bool) (s : Bytes) (x : Spot) (at : ℕ) → LyingAt 104 s x → firstSpot t s x ≡ InOut at → at + 104 ≤ length s
+spot-inside : (t : Bytes → Bool) (s : Bytes) (x : Spot) (at : ℕ) → ExtensionAt s x → firstSpot t s x ≡ InOut at → at + 104 ≤ length s
 unfolding firstFrom
 spot-inside t s Absent at l e = let z : _≡_ {A = ℕ} 0 1 = cc in absurd (omega arith)
 spot-inside t s (At d) at l e = let k = place-inside t s (d .size / 104) (d .at) at e in let i = l .inside in omega arith
@@ -120,6 +123,7 @@ module _ (c : Command) (g : Range) where
       in-segment : (p : Parsed) → Says c p → firstIn (c .cdb) (segment c) p (c .on) g ≡ InOut at → at + 104 ≤ length (segment c)
       in-segment p s q = go (admitsIn (soughtBy p (c .on)) g (part 80 104 (c .cdb))) q
         where
-          go : (b : Bool) → cond b InCdb (firstSpot (admitsIn (soughtBy p (c .on)) g) (segment c) (p .found .extension)) ≡ InOut at → at + 104 ≤ length (segment c)
+          go : (b : Bool) → cond b InCdb (firstSpot (admitsIn (soughtBy p (c .on)) g) (segment c) (p .found .extension)) ≡ InOut at
+              → at + 104 ≤ length (segment c)
           go true r = let z : _≡_ {A = ℕ} 0 1 = cc in absurd (omega arith)
           go false r = spot-inside _ (segment c) (p .found .extension) at (says-reads c p s .extension) r

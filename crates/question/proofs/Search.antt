@@ -10,8 +10,8 @@ use Rattle.rules.specs.Segment.{placesFrom}
 use Rattle.rules.specs.Capability.{inside}
 use Rattle.capability.specs.declared.Sought.{Sought}
 use Rattle.capability.specs.Terms.{meets}
-use Rattle.sought.specs.Sought.{admitsIn}
-use Rattle.sought.proofs.Pieces.{peel, none-left, piece}
+use Rattle.capability.specs.Sought.{admitsIn}
+use Rattle.capability.proofs.Pieces.{peel, none-left, piece}
 use Rattle.question.specs.declared.Place.the-variants.{Nowhere, InOut}
 use Rattle.question.specs.Places.{firstAt}
 

@@ -14,7 +14,7 @@ use Rattle.rules.specs.Bytes.{Bytes, part}
 use Rattle.rules.specs.Segment.{placesFrom}
 use Rattle.rules.specs.Reading.{Lent, inCdb, inOut, Held}
 use Rattle.header.specs.declared.Parsed.{Parsed}
-use Rattle.sought.specs.Sought.{soughtBy, admitsIn}
+use Rattle.capability.specs.Sought.{soughtBy, admitsIn}
 use Rattle.question.specs.declared.Place.{Place}
 use Rattle.question.specs.declared.Place.the-variants.{Nowhere, InCdb, InOut}
 

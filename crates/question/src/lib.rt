@@ -9,7 +9,8 @@ use rules::Spot;
 ghost use mathlib.Core.Path.{_≡_};
 ghost use Rattle.rules.specs.Admission.{question};
 ghost use Rattle.header.specs.Reading.{command};
-ghost use Rattle.sought.specs.Sought.{Lying, Reads, admitsIn};
+ghost use Rattle.segment.specs.Lying.{ExtensionIn};
+ghost use Rattle.capability.specs.Sought.{Reads, admitsIn};
 ghost use Rattle.question.specs.Places.{placeOf, firstFrom, firstIn, Handed};
 
 // Where a capability stands.
@@ -22,14 +23,14 @@ pub enum Place {
 // The first of the extension's capabilities that admits a range. The range is tested first: of several capabilities mostly one
 // has it inside.
 fn first_extension(segment: &[u8], part: Part, by: Sought, g: Range) -> Place
-    requires { ⌜ Lying 104 (now segment) part ⌝ }
+    requires { ⌜ ExtensionIn (now segment) part ⌝ }
     ensures { λ r. ⌜ r ≡ firstFrom (admitsIn by g) (now (segment .entry)) part ⌝ }
 {
     let mut from = part.at;
     let mut untried = part.size / 104;
     while 0 < untried {
         let to = from + 104;
-        if allowance::is_inside(&segment[from..to], g) {
+        if capability::is_inside(&segment[from..to], g) {
             if capability::is_match(&segment[from..to], by) {
                 return Place::InOut(from);
             }
@@ -45,8 +46,8 @@ fn first_place(cdb: &[u8], segment: &[u8], said: Parsed, on: Record, g: Range) -
     requires { ⌜ Reads (now cdb) (now segment) said ⌝ }
     ensures { λ r. ⌜ r ≡ firstIn (now (cdb .entry)) (now (segment .entry)) said on g ⌝ }
 {
-    let by = sought::sought_by(said, on);
-    if allowance::is_inside(&cdb[80..184], g) {
+    let by = capability::sought_by(said, on);
+    if capability::is_inside(&cdb[80..184], g) {
         if capability::is_match(&cdb[80..184], by) {
             return Place::InCdb;
         }

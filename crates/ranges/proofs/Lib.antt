@@ -1,2 +1,6 @@
 pub mod Sums
 pub mod Meetings
+pub mod Loading
+pub mod Entrywise
+pub mod Faults
+pub mod Reaches

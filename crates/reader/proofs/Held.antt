@@ -72,7 +72,8 @@ module _ {M : Type 1} (𝓤 : URA M) (H : Heap 𝓤) (A : Atoms 𝓤) (W : Given
   apart =
       qed W (‵ Own ∷ []) ∵
       use1 W (‵ Own ⊛ ‵ Own) (LL.copy (D (κ, tt)) (T′.the-copy (namedLft 1 0 tt (κ, tt))) 𝓤 H A W .twice d (mach κ d ∷ [])) $ split ! $
-      use1 W (given (mach κ d ∷ [] ≡ mach κ d ∷ []) (‵ (all-own (D (κ, tt) .parts) (L (κ, tt)) (d .segment, (d .position, tt))))) (own-open 𝓤 H A W (D (κ, tt)) (L (κ, tt)) (d .segment, (d .position, tt)) (mach κ d)) $ learn ! (λ _. done !)
+      use1 W (given (mach κ d ∷ [] ≡ mach κ d ∷ []) (‵ (all-own (D (κ, tt) .parts) (L (κ, tt)) (d .segment, (d .position, tt)))))
+      (own-open 𝓤 H A W (D (κ, tt)) (L (κ, tt)) (d .segment, (d .position, tt)) (mach κ d)) $ learn ! (λ _. done !)
 
   -- the typing of the whole, and of the position in it
   pub typed : Is (B (κ, tt)) d (mach κ d ∷ []) → Holds (hasTy (T′.mir (named 0)) (mach κ d)) × WT (mach κ d)

@@ -1,7 +1,8 @@
 -- The law of the reader: n steps of it are n steps of the book's walk.
 -- `n-steps` says so of the walk over a stated number of descriptors. `the-rest` says that what is left from where n steps come to is the whole walk.
 -- `in-two-goes` and `goes-by-met` say what steps one at a time come to.
--- From these: the same end and the same first fault, met by the reader (`same-end`, `same-fault`) and by the walk (`reaches-end`, `reaches-fault`), and the same descriptors in order (`list-stands`, `extension-stands`).
+-- From these: the same end and the same first fault, met by the reader (`same-end`, `same-fault`) and by the walk (`reaches-end`,
+-- `reaches-fault`), and the same descriptors in order (`list-stands`, `extension-stands`).
 use Prim.Native.Nat.{ℕ, zero, suc, _+_, _≤_}
 use mathlib.Core.Path.{_≡_, refl, sym, ap, subst, _∙_}
 use native.Mathlib.Omega.{arith}
@@ -17,10 +18,10 @@ use Rattle.rules.specs.declared.Walk.{Walk}
 use Rattle.rules.specs.declared.Walk.the-variants.{Whole, Broken}
 use Rattle.rules.specs.Bytes.{Bytes}
 use Rattle.rules.specs.Segment.{here, next, walkFrom, walk}
-use Rattle.walk.specs.declared.Step.{Step}
-use Rattle.walk.specs.declared.Step.the-variants.{Stop, On}
-use Rattle.walk.specs.Step.{unlessMet, stepOf, stepped}
-use Rattle.walk.proofs.Walking.{run, follow-run, stops, goes-on, onwards}
+use Rattle.segment.specs.declared.Step.{Step}
+use Rattle.segment.specs.declared.Step.the-variants.{Stop, On}
+use Rattle.segment.specs.Step.{unlessMet, stepOf, stepped}
+use Rattle.segment.proofs.Walking.{run, follow-run, stops, goes-on, onwards}
 use Rattle.reader.specs.declared.Position.{Position}
 use Rattle.reader.specs.Position.{start, newly, metBy, met, passed, after, behind}
 use Rattle.reader.proofs.Stepping.{stays, moves}
@@ -218,7 +219,8 @@ unfaulted f (Extensions d) h q sound = cases (f .extension) q
     cases Absent e = e
     cases (At x) e = absurd (sound _ (sym e))
 
-stands : (n : ℕ) (s : Bytes) (h : Here) (at : ℕ) (f : Found) → met s (after n s start) ≡ h → stepAt s (after n s start) ≡ On at f → ((c : Cause) → h ≡ Fault c → ⊥) → Stands n s h
+stands : (n : ℕ) (s : Bytes) (h : Here) (at : ℕ) (f : Found) → met s (after n s start) ≡ h → stepAt s (after n s start) ≡ On at f
+    → ((c : Cause) → h ≡ Fault c → ⊥) → Stands n s h
 unfolding met
 stands n s h at f m q sound =
     let p : Position = after n s start in

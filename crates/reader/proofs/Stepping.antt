@@ -12,9 +12,9 @@ use Rattle.rules.specs.declared.Walk.{Walk}
 use Rattle.rules.specs.declared.Walk.the-variants.{Whole, Broken}
 use Rattle.rules.specs.Bytes.{Bytes}
 use Rattle.rules.specs.Segment.{here}
-use Rattle.walk.specs.declared.Step.{Step}
-use Rattle.walk.specs.declared.Step.the-variants.{Stop, On}
-use Rattle.walk.specs.Step.{unlessMet, stepOf, stepped}
+use Rattle.segment.specs.declared.Step.{Step}
+use Rattle.segment.specs.declared.Step.the-variants.{Stop, On}
+use Rattle.segment.specs.Step.{unlessMet, stepOf, stepped}
 use Rattle.reader.specs.declared.Position.{Position}
 use Rattle.reader.specs.Position.{newly, metBy, met, passed, after}
 

@@ -9,9 +9,9 @@ use Rattle.rules.specs.declared.Spot.the-variants.{Absent, At}
 use Rattle.rules.specs.declared.Found.{Found}
 use Rattle.rules.specs.Bytes.{Bytes}
 use Rattle.rules.specs.Segment.{here, next, nothing}
-use Rattle.walk.specs.declared.Step.{Step}
-use Rattle.walk.specs.declared.Step.the-variants.{Stop, On}
-use Rattle.walk.specs.Step.{stepped}
+use Rattle.segment.specs.declared.Step.{Step}
+use Rattle.segment.specs.declared.Step.the-variants.{Stop, On}
+use Rattle.segment.specs.Step.{stepped}
 use Rattle.reader.specs.declared.Position.{Position}
 
 -- descriptors stand from byte 40 on, and nothing is found before the first

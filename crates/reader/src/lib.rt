@@ -5,7 +5,7 @@ use rules::Found;
 use rules::Here;
 use rules::Spot;
 use rules::Walk;
-use walk::Step;
+use segment::Step;
 ghost use mathlib.Core.Path.{_≡_};
 ghost use Rattle.reader.specs.Position.{start, met, after, left};
 
@@ -39,7 +39,7 @@ fn met_at(s: &[u8], position: Position) -> Here
 {
     let at = position.at;
     let found = position.found;
-    let step = walk::step_from(s, at, found);
+    let step = segment::step_from(s, at, found);
     match step {
         Step::Stop(walk) => match walk {
             Walk::Whole(_) => Here::End,
@@ -57,7 +57,7 @@ fn position_after(s: &[u8], position: Position, steps: usize) -> Position
     let mut found = position.found;
     let mut more = steps;
     while more > 0 {
-        let step = walk::step_from(s, at, found);
+        let step = segment::step_from(s, at, found);
         match step {
             Step::Stop(_) => more = 0,
             Step::On(next, now) => {

@@ -10,7 +10,7 @@ use borrow.Author.Tests.{ltb-false, leb-false, eqb-true, eqb-false, not-false}
 use Rattle.rules.specs.declared.Verb.{Verb}
 use Rattle.rules.specs.declared.Verb.the-variants.{Read, Write, Clear, Punch}
 use Rattle.rules.specs.Tests.{firstOf, isSome}
-use Rattle.rules.specs.Command.{verbOf, asks, isWrite, isClear, isPunch}
+use Rattle.rules.specs.Command.{READ, WRITE, CLEAR, PUNCH, verbOf, asks, isWrite, isClear, isPunch}
 use Rattle.rules.specs.Ranges.{total, overlapping}
 use Rattle.rules.specs.Writer.{Request, entries, segmentFor, refusals}
 use Rattle.rules.proofs.Booleans.{or-false-parts}
@@ -19,14 +19,14 @@ use Rattle.rules.proofs.Passed.{skips}
 -- an action that has a verb fits its field
 pub fits-field : (a : ℕ) → isSome (verbOf a) ≡ true → a < 65536
 unfolding verbOf firstOf
-fits-field a e = go (eqb a 0x8885) (eqb a 0x8886) (eqb a 0x8889) (eqb a 0x8884) refl refl refl refl e
+fits-field a e = go (eqb a READ) (eqb a WRITE) (eqb a CLEAR) (eqb a PUNCH) refl refl refl refl e
   where
-    go : (r w c p : Bool) → eqb a 0x8885 ≡ r → eqb a 0x8886 ≡ w → eqb a 0x8889 ≡ c → eqb a 0x8884 ≡ p
+    go : (r w c p : Bool) → eqb a READ ≡ r → eqb a WRITE ≡ w → eqb a CLEAR ≡ c → eqb a PUNCH ≡ p
         → isSome (cond r (some Read) (cond w (some Write) (cond c (some Clear) (cond p (some Punch) none)))) ≡ true → a < 65536
-    go true w c p e f g h k = omega (arith, eqb-true a 0x8885 e)
-    go false true c p e f g h k = omega (arith, eqb-true a 0x8886 f)
-    go false false true p e f g h k = omega (arith, eqb-true a 0x8889 g)
-    go false false false true e f g h k = omega (arith, eqb-true a 0x8884 h)
+    go true w c p e f g h k = omega (arith, eqb-true a READ e)
+    go false true c p e f g h k = omega (arith, eqb-true a WRITE f)
+    go false false true p e f g h k = omega (arith, eqb-true a CLEAR g)
+    go false false false true e f g h k = omega (arith, eqb-true a PUNCH h)
     go false false false false e f g h k = absurd (false≢true k)
 
 pub record Accepted (q : Request) : Type 0 where

@@ -19,7 +19,9 @@ use Rattle.rules.specs.Command.{Command, verb, segment}
 use Rattle.rules.specs.Ranges.{end, covered}
 use Rattle.rules.specs.Capability.{permits, tagged, current, matches, allowedStart, bound, inside, has}
 use Rattle.rules.specs.Reading.{Held, walked, found, listed, ranges, solo, extension, extensionsOf, capabilities}
-use Rattle.rules.specs.Header.{cdbMalformed, actionUnknown, otherObject, continued, continuationWrong, segmentHeaderWrong, descriptorFaulty, listForbidden, header, readable}
+use Rattle.rules.specs.Header.{cdbMalformed, actionUnknown, otherObject, continued, continuationWrong, segmentHeaderWrong}
+use Rattle.rules.specs.Header.{descriptorFaulty, listForbidden}
+use Rattle.rules.specs.Header.{frontRows, segmentRows, header, readable}
 use Rattle.rules.specs.Admission.{fits, admits, admitting, admitted}
 use Rattle.rules.specs.Rows.{Room, notAdmitted}
 use Rattle.rules.specs.Answer.{lengthened}
@@ -33,7 +35,7 @@ abbrev pub allows : Verb → Command → (position : ℕ) → Bool
 allows v c p = readable c && any (λ (k : Held). fits v c k && has (k .bytes) p) (capabilities c)
 
 passes : (c : Command) → Readable c → readable c ≡ true
-unfolding readable header firstOf
+unfolding readable header frontRows segmentRows firstOf
 passes c h = rw (h .cdb, h .action, h .ids, h .continuation, h .segment, h .walk, h .list)
 
 -- a capability has every position of a range that lies inside it
@@ -70,6 +72,7 @@ held-alike x r r′ = ap (λ (ks : List Held). solo (meets x r) ∷ ks) (go (fou
 
 -- logical length is nothing that rows 2 to 8 or a capability look at
 pub length-aside : (v : Verb) (r : Record) (n p : ℕ) (x : Sent) → lets v (lengthened r n) p x ≡ lets v r p x
-unfolding lets meets readable header cdbMalformed actionUnknown otherObject continued continuationWrong segmentHeaderWrong descriptorFaulty
+unfolding lets meets readable header frontRows segmentRows cdbMalformed actionUnknown otherObject continued continuationWrong
+    segmentHeaderWrong descriptorFaulty
     listForbidden verb segment walked found listed fits matches tagged current
 length-aside v r n p x = rw (held-alike x (lengthened r n) r)

@@ -8,6 +8,7 @@ use Rattle.rules.specs.declared.Verb.{Verb}
 use Rattle.rules.specs.declared.Verb.the-variants.{Read, Write}
 use Rattle.rules.specs.Bytes.{Bytes, byte}
 use Rattle.rules.specs.Answer.{lengthened}
+use Rattle.rules.specs.Command.{verb}
 use Rattle.rules.specs.Session.{Sent, State, meets, told, after, reply, lets, punches}
 use Rattle.rules.proofs.Kept.{law6}
 use Rattle.rules.proofs.Admitted.{length-aside}
@@ -47,7 +48,7 @@ size-after t x = law6 (meets x (t .on)) (t .slice) (x .input) .size
 module _ (r : Record) (mine : ℕ → Bool) (t u : State) (k : Alike r mine t u) (x : Sent) (calm : punches x ≡ false) where
   -- a command of the second writes nothing that the first may read
   pub apart-step : ((p : ℕ) → mine p ≡ true → lets Write r p x ≡ false) → Alike r mine (after x t) u
-  unfolding after told meets punches lets
+  unfolding after told meets punches lets verb
   apart-step away =
       record {
         from = from-after r t x (k .from);
@@ -59,7 +60,7 @@ module _ (r : Record) (mine : ℕ → Bool) (t u : State) (k : Alike r mine t u)
   -- A command of the first meets one record in both, and reads only what is the same.
   module _ (level : t .on .length ≡ u .on .length) (reads : (p : ℕ) → lets Read r p x ≡ true → mine p ≡ true) where
     pair : Twins (meets x (t .on)) (t .slice) (u .slice) (told x t) (told x u)
-    unfolding told meets punches lets
+    unfolding told meets punches lets verb
     pair =
         let one : t .on ≡ u .on = k .from ∙ ap (lengthened r) level ∙ sym (k .from′) in
         rw (← one)

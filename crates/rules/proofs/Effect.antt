@@ -3,19 +3,17 @@
 use Prim.Native.Nat.{ℕ, _+_, _≤_, _<_}
 use mathlib.Core.Path.{_≡_, refl, sym, _∙_}
 use mathlib.Core.Logic.{_⊎_, inl, inr}
-use mathlib.Core.Bool.{Bool, true, false, cond, false≢true}
+use mathlib.Core.Bool.{Bool, true, false, false≢true}
 use mathlib.Core.Option.{none, some}
 use mathlib.Core.List.{List, [], _∷_}
 use native.Mathlib.Omega.{arith}
-use lib.Dec.{eqb}
 use lib.ListN.{length, take, drop, length-take, length-drop, List·getD-eq-default}
 use lib.Seq.{getD-take, getD-drop, ext-getD}
 use Rattle.rules.specs.declared.Range.{Range}
 use Rattle.rules.specs.declared.Verb.{Verb}
 use Rattle.rules.specs.declared.Verb.the-variants.{Read, Write, Clear, Punch}
 use Rattle.rules.specs.Bytes.{Bytes, byte, part}
-use Rattle.rules.specs.Tests.{firstOf}
-use Rattle.rules.specs.Command.{Command, action, verbOf, verb}
+use Rattle.rules.specs.Command.{Command, verb, asks, isPunch}
 use Rattle.rules.specs.Ranges.{covered}
 use Rattle.rules.specs.Reading.{ranges}
 use Rattle.rules.specs.Rows.{raised, refusal}
@@ -37,16 +35,9 @@ left a = take (a .answer .next .length) (a .slice)
 pub behind : (n : ℕ) (s : Bytes) (p : ℕ) → n ≤ p → byte p (take n s) ≡ 0
 behind n s p h = List·getD-eq-default (take n s) 0 (rw length-take (omega arith))
 
--- a service action other than PUNCH's isn't PUNCH
-unpunched : (a : ℕ) → eqb a 0x8884 ≡ false → verbOf a ≡ some Punch → ⊥
-unfolding verbOf firstOf
-unpunched a n e = go (eqb a 0x8885) (eqb a 0x8886) (eqb a 0x8889) (rw n at e)
-  where
-    go : (r w c : Bool) → cond r (some Read) (cond w (some Write) (cond c (some Clear) none)) ≡ some Punch → ⊥
-    go true w c e = let z : _≡_ {A = ℕ} 0 1 = cc in omega arith
-    go false true c e = let z : _≡_ {A = ℕ} 0 1 = cc in omega arith
-    go false false true e = let z : _≡_ {A = ℕ} 0 1 = cc in omega arith
-    go false false false e = let z : _≡_ {A = ℕ} 0 1 = cc in omega arith
+-- a command that doesn't ask for PUNCH isn't PUNCH
+unpunched : (c : Command) → asks (verb c) isPunch ≡ false → verb c ≡ some Punch → ⊥
+unpunched c n e = false≢true (sym (rw e at n))
 
 -- ---- WRITE and CLEAR
 
@@ -68,7 +59,7 @@ module _ (c : Command) (d s i : Bytes) (a : Answered) (w : Wrote c d s i a) wher
 -- ---- one run
 
 -- at a position that the command may not write, the object reads the same before and after
-pub spares : (c : Command) (s i : Bytes) → eqb (action (c .cdb)) 0x8884 ≡ false
+pub spares : (c : Command) (s i : Bytes) → asks (verb c) isPunch ≡ false
     → (p : ℕ) → allows Write c p ≡ false → byte p (left (answered c s i)) ≡ byte p (object c s)
 unfolding verb
 spares c s i other p f = go (course c s i)
@@ -84,7 +75,7 @@ spares c s i other p f = go (course c s i)
     carry Write e h = outside c _ s i _ (write c s i e h) p (untouched (touches-allowed Write c _ p (passed c _ e) h))
     carry Clear e h =
         outside c _ s i _ (clear c s i e h) p (untouched (λ k. rw clears-writes at (touches-allowed Clear c _ p (passed c _ e) h k)))
-    carry Punch e h = absurd (unpunched (action (c .cdb)) other h)
+    carry Punch e h = absurd (unpunched c other h)
 
     go : Course c s i → byte p (left (answered c s i)) ≡ byte p (object c s)
     go (refusing w e a) = let u = refused-unchanged w c s i in rw a (idle (refused w c s i) (u .next) (u .slice))
@@ -141,7 +132,7 @@ writing-twins c d s s′ i a a′ w w′ =
         let (k, counted, there) = w .each p h in
         inside c d s i a w p h ∙ rw there at (w .holds k counted ∙ sym (w′ .holds k counted)) ∙ sym (inside c d s′ i a′ w′ p h)
 
-pub twins : (c : Command) (s s′ i : Bytes) → eqb (action (c .cdb)) 0x8884 ≡ false → length s ≡ length s′
+pub twins : (c : Command) (s s′ i : Bytes) → asks (verb c) isPunch ≡ false → length s ≡ length s′
     -- READ depends on no byte of the object but those that the command may read
     → ((p : ℕ) → allows Read c p ≡ true → byte p (object c s) ≡ byte p (object c s′))
     → Twins c s s′ (answered c s i) (answered c s′ i)
@@ -159,7 +150,7 @@ twins c s s′ i other size same = go (course c s i)
         (reading-twins c s s′ i _ _ (gathered-alike (ranges c) _ _ whole (λ p k. same p (touches-allowed Read c _ p q h k))))
     carry Write e e′ h = writing-twins c _ s s′ i _ _ (write c s i e h) (write c s′ i e′ h)
     carry Clear e e′ h = writing-twins c _ s s′ i _ _ (clear c s i e h) (clear c s′ i e′ h)
-    carry Punch e e′ h = absurd (unpunched (action (c .cdb)) other h)
+    carry Punch e e′ h = absurd (unpunched c other h)
 
     -- the rows see the slice's size alone
     go : Course c s i → Both

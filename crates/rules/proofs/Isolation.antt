@@ -10,7 +10,8 @@ use lib.Seq.{getD-take}
 use Rattle.rules.specs.declared.Record.{Record}
 use Rattle.rules.specs.declared.Verb.the-variants.{Read, Write}
 use Rattle.rules.specs.Bytes.{byte, any}
-use Rattle.rules.specs.Session.{Caller, first, second, Sent, State, after, firsts, replies, lengths, is, lets, may, punches, same-commands, no-punch, apart, same-size, same-bytes, same-lengths, Isolation}
+use Rattle.rules.specs.Session.{Caller, first, second, Sent, State, after, firsts, replies, lengths, is, lets, may, punches}
+use Rattle.rules.specs.Session.{same-commands, no-punch, apart, same-size, same-bytes, same-lengths, Isolation}
 use Rattle.rules.proofs.Booleans.{fails, lt-or-le}
 use Rattle.rules.proofs.Members.{any-of, none-of}
 use Rattle.rules.proofs.Effect.{behind}

@@ -17,7 +17,7 @@ use Rattle.rules.specs.Bytes.{Bytes}
 use Rattle.rules.specs.Tests.{Test}
 use Rattle.rules.specs.Command.{Command, lengthOf, verb, isRead}
 use Rattle.rules.specs.Ranges.{span}
-use Rattle.rules.specs.Header.{header}
+use Rattle.rules.specs.Header.{frontRows, segmentRows, header}
 use Rattle.rules.specs.Rows.{Room, rows, refusal}
 use Rattle.rules.specs.Reading.{ranges}
 use Rattle.rules.specs.Object.{gathered}
@@ -28,7 +28,7 @@ use Rattle.rules.proofs.First.{givesAt, FirstHolds, NoneHolds, some-non
 
 -- the rows are numbered from 1 to 14, in the order tested
 pub numbered : (c : Command) (m : Room) → map (λ (w : Test Refusal). row (w .gives)) (rows c m) ≡ span 1 14
-unfolding rows header span
+unfolding rows header frontRows segmentRows span
 numbered c m = refl
 
 span-value : (b n k v : ℕ) → getElem? (span b n) k ≡ some v → (v ≡ b + k) × (k < n)
@@ -37,7 +37,8 @@ span-value b zero k v e = absurd (some-none (sym e))
 span-value b (suc n) zero v e = let h : v ≡ b = cc in (omega arith, omega arith)
 span-value b (suc n) (suc k) v e = let h = span-value (suc b) n k v e in (omega arith, omega arith)
 
-row-value : (ts : List (Test Refusal)) (k : ℕ) (w : Refusal) → givesAt ts k ≡ some w → getElem? (map (λ (t : Test Refusal). row (t .gives)) ts) k ≡ some (row w)
+row-value : (ts : List (Test Refusal)) (k : ℕ) (w : Refusal) → givesAt ts k ≡ some w
+    → getElem? (map (λ (t : Test Refusal). row (t .gives)) ts) k ≡ some (row w)
 row-value [] k w e = absurd (some-none (sym e))
 row-value (t ∷ ts) zero w e = let h : t .gives ≡ w = cc in ap (λ (r : Refusal). some (row r)) h
 row-value (t ∷ ts) (suc k) w e = row-value ts k w e
@@ -50,10 +51,10 @@ number-at c m k w e =
     (omega arith, v .1)
 
 -- a verb that is carried out ends with 15, a READ that is short, or with 0
-abbrev Short : Verb → (length : ℕ) → Answered → Type 0
+abbrev Short : Verb → (size : ℕ) → Answered → Type 0
 Short v n a = (v ≡ Read) × (number (a .answer .outcome) ≡ 15) × (a .answer .count < n)
 
-abbrev Full : Verb → (length : ℕ) → Answered → Type 0
+abbrev Full : Verb → (size : ℕ) → Answered → Type 0
 Full v n a = (number (a .answer .outcome) ≡ 0) × (v ≡ Read → n ≤ a .answer .count)
 
 ending : (v : Verb) (c : Command) (s i : Bytes) → Short v (lengthOf (c .cdb)) (carried v c s i) ⊎ Full v (lengthOf (c .cdb)) (carried v c s i)
@@ -103,7 +104,8 @@ refusing-numbered c s i w e a =
       others = (λ q. absurd (omega arith), λ f. absurd (held (f .0)));
     }
 
-carrying-numbered : (c : Command) (s i : Bytes) (v : Verb) → refusal c (roomOf s i) ≡ none → verb c ≡ some v → answered c s i ≡ carried v c s i → Numbered c s i
+carrying-numbered : (c : Command) (s i : Bytes) (v : Verb) → refusal c (roomOf s i) ≡ none → verb c ≡ some v
+    → answered c s i ≡ carried v c s i → Numbered c s i
 unfolding refusal
 carrying-numbered c s i v e h a = go (ending v c s i)
   where

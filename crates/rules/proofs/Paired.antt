@@ -58,7 +58,8 @@ module _ {ask : List Range → Bool} {one : Range → List Range → Bool} (asks
   left-all l = record { within = l; rest = refl }
 
   module _ (i : ℕ) (k : Left ask os ns n from i) where
-    module _ (l : i < n) (ho : n ≤ length os) (hn : n ≤ length ns) {g : Range} (q : g ≡ pairAt os ns i) {b : Bool} (e : b ≡ one g (drop (i + 1) (pairs os ns n))) where
+    module _ (l : i < n) (ho : n ≤ length os) (hn : n ≤ length ns) {g : Range} (q : g ≡ pairAt os ns i) {b : Bool}
+        (e : b ≡ one g (drop (i + 1) (pairs os ns n))) where
       here : ask (drop from (pairs os ns n)) ≡ (b || ask (drop (i + 1) (pairs os ns n)))
       here = k .rest ∙ rw (next-pair n i os ns l ho hn, asks .more, ← add-one i, ← q, ← e)
 
@@ -72,7 +73,8 @@ module _ {ask : List Range → Bool} {one : Range → List Range → Bool} (asks
     left-none m = let e : i ≡ n = omega (arith, k .within) in sym (k .rest ∙ rw (e, no-pair n os ns, asks .none))
 
 -- one range more, behind the others
-paired-snoc : (os ns : List ℕ) (o n : ℕ) → length os ≡ length ns → paired (os ++ (o ∷ [])) (ns ++ (n ∷ [])) ≡ paired os ns ++ (record { start = o; size = n } ∷ [])
+paired-snoc : (os ns : List ℕ) (o n : ℕ) → length os ≡ length ns
+    → paired (os ++ (o ∷ [])) (ns ++ (n ∷ [])) ≡ paired os ns ++ (record { start = o; size = n } ∷ [])
 unfolding paired
 paired-snoc [] [] o n e = refl
 paired-snoc [] (b ∷ ns) o n e = absurd (omega arith)

@@ -5,7 +5,8 @@ use mathlib.Core.Option.{none, some}
 use mathlib.Core.List.{List, _∷_}
 use Rattle.rules.specs.Tests.{Test, firstOf}
 use Rattle.rules.specs.Command.{Command}
-use Rattle.rules.specs.Header.{cdbMalformed, actionUnknown, otherObject, continuationWrong, segmentHeaderWrong, descriptorFaulty, listForbidden, header}
+use Rattle.rules.specs.Header.{cdbMalformed, actionUnknown, otherObject, continuationWrong, segmentHeaderWrong, descriptorFaulty, listForbidden}
+use Rattle.rules.specs.Header.{frontRows, segmentRows, header}
 use Rattle.rules.proofs.First.{some-none}
 use Rattle.rules.specs.Rows.{Room, objectUnfit, listWithStart, listFault, notAdmitted, startsBeyond, bufferShort, noRoom, rows, refusal}
 
@@ -19,8 +20,8 @@ skips t ts e = go (t .holds) e
     go false q = (refl, q)
 
 pub record Readable (c : Command) : Type 0 where
-  pub cdb : cdbMalformed c ≡ false
-  pub action : actionUnknown c ≡ false
+  pub cdb : cdbMalformed (c .cdb) ≡ false
+  pub action : actionUnknown (c .cdb) ≡ false
   pub ids : otherObject c ≡ false
   pub continuation : continuationWrong c ≡ false
   pub segment : segmentHeaderWrong c ≡ false
@@ -38,7 +39,7 @@ pub record Passed (c : Command) (m : Room) : Type 0 where
   pub room : noRoom c m ≡ false
 
 pub passed : (c : Command) (m : Room) → refusal c m ≡ none → Passed c m
-unfolding refusal rows header
+unfolding refusal rows header frontRows segmentRows
 passed c m e =
     let r1 = skips _ _ e in
     let r2 = skips _ _ (r1 .1) in
@@ -76,7 +77,7 @@ passed c m e =
 
 -- the same of rows 2 to 8 alone
 pub header-passed : (c : Command) → firstOf (header c) ≡ none → Readable c
-unfolding header
+unfolding header frontRows segmentRows
 header-passed c e =
     let r2 = skips _ _ e in
     let r3 = skips _ _ (r2 .1) in

@@ -266,6 +266,3 @@ reach-least n (g ∷ gs) = go (reach-least (lifted n g) gs) (lifted-least n g)
     go (inr later) l = inr (later .0, covered-later g gs (later .0) (later .1), later .2)
     go (inl same) (inl old) = inl (same ∙ old)
     go (inl same) (inr here) = inr (here .0, covered-here g gs (here .0) (here .1), same ∙ here .2)
-
-pub reach-ends : (n : ℕ) (gs : List Range) → EndsBy (reach n gs) gs
-reach-ends n gs = inside-ends (reach n gs) gs (reach-above n gs)

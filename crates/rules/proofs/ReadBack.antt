@@ -48,12 +48,12 @@ module _ (q : Request) (a : Accepted q) (d : Bytes) (r : Record) where
   unfolding verb
   names = ap verbOf (action-read q (fits-field (q .action) (a .known)))
 
-  formed : cdbMalformed (asCommand q d r) ≡ false
+  formed : cdbMalformed (cdbFor q) ≡ false
   unfolding cdbMalformed
   formed = rw (cdb-length q (one-given a), first-byte q, eighth-byte q)
 
-  known : actionUnknown (asCommand q d r) ≡ false
-  unfolding actionUnknown
+  known : actionUnknown (cdbFor q) ≡ false
+  unfolding actionUnknown verb
   known = rw (names, a .known)
 
   -- rows 5 and 6 ask something only where there is a segment

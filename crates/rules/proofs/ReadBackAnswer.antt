@@ -15,7 +15,7 @@ use Rattle.rules.specs.Tests.{test, firstOf, isSome}
 use Rattle.rules.specs.Command.{verbOf, verb, asks, isRead, isWrite, isClear, isPunch, soleRange, partitionOf, objectOf}
 use Rattle.rules.specs.Capability.{matches, inside}
 use Rattle.rules.specs.Reading.{Held, capabilities}
-use Rattle.rules.specs.Header.{header}
+use Rattle.rules.specs.Header.{frontRows, segmentRows, header}
 use Rattle.rules.specs.Admission.{fits, admits, admitting, admitted}
 use Rattle.rules.specs.Rows.{Room, objectUnfit, notAdmitted, startsBeyond, bufferShort, raised, noRoom, rows, refusal}
 use Rattle.rules.specs.Answer.{refused, read, wrote, cut, carried, settled, answered}
@@ -98,7 +98,7 @@ module _ (q : Request) (d : Bytes) (r : Record) (v : Verb) (a : Accepted q) (k :
 
   -- the first row that holds
   refuses : (m : Room) → refusal (asCommand q d r) m ≡ firstOf (rowsFor v q d r m)
-  unfolding refusal rows header rowsFor firstOf objectUnfit
+  unfolding refusal rows header frontRows segmentRows rowsFor firstOf objectUnfit
   refuses m =
       rw (
         k .row2,

@@ -15,7 +15,9 @@ use Rattle.rules.specs.Bytes.{Bytes, byte, laid, any}
 use Rattle.rules.specs.Ranges.{end, total, meet, overlapping, reach, span, positions, covered}
 use Rattle.rules.specs.Object.{scattered}
 use Rattle.rules.proofs.Lists.{laid-nothing, laid-length, laid-below, laid-within, laid-above}
-use Rattle.rules.proofs.Positions.{Of, covered-empty, outside-cases, positions-length, Inside, Later, uncovered-here, uncovered-later, inside-ends, inside-later, position-here, position-later, place-cases, apart, apart-parts}
+use Rattle.rules.proofs.Positions.{Of, covered-empty, outside-cases, positions-length, Inside, Later, uncovered-here}
+use Rattle.rules.proofs.Positions.{uncovered-later, inside-ends, inside-later, position-here, position-later, place-cases, apart}
+use Rattle.rules.proofs.Positions.{apart-parts}
 
 -- ---- one range
 

@@ -21,7 +21,8 @@ use Rattle.rules.proofs.Given.{alone, unlisted, sums, apart, supplied, 
 use Rattle.rules.proofs.Course.{roomOf}
 use Rattle.rules.proofs.Lists.{byte-zeros, laid-length, laid-below, laid-within, laid-above}
 use Rattle.rules.proofs.Positions.{reach-old, reach-above, reach-least, covered-placed}
-use Rattle.rules.proofs.Scatter.{Ready, scattered-length, scattered-other, scattered-holds, nonempty, nonempty-scattered, nonempty-reach, nonempty-positions}
+use Rattle.rules.proofs.Scatter.{Ready, scattered-length, scattered-other, scattered-holds, nonempty, nonempty-scattered}
+use Rattle.rules.proofs.Scatter.{nonempty-reach, nonempty-positions}
 
 -- The law. d is the command data, or for CLEAR zeros; s and i are the slice and Data-In as they were lent.
 pub record Wrote (c : Command) (d s i : Bytes) (a : Answered) : Type 0 where

@@ -39,14 +39,27 @@ startOf cdb = field 40 8 cdb
 unfoldable pub continuation : Bytes → ℕ
 continuation cdb = field 48 4 cdb
 
+-- the service actions (document 004, annex table)
+abbrev pub READ : ℕ
+READ = 0x8885
+
+abbrev pub WRITE : ℕ
+WRITE = 0x8886
+
+abbrev pub CLEAR : ℕ
+CLEAR = 0x8889
+
+abbrev pub PUNCH : ℕ
+PUNCH = 0x8884
+
 -- a service action's verb, where it has one
 unfoldable pub verbOf : ℕ → Option Verb
 verbOf a =
     firstOf
-    (test Read (eqb a 0x8885)
-    ∷ test Write (eqb a 0x8886)
-    ∷ test Clear (eqb a 0x8889)
-    ∷ test Punch (eqb a 0x8884)
+    (test Read (eqb a READ)
+    ∷ test Write (eqb a WRITE)
+    ∷ test Clear (eqb a CLEAR)
+    ∷ test Punch (eqb a PUNCH)
     ∷ [])
 
 unfoldable pub verb : Command → Option Verb

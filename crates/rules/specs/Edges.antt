@@ -10,7 +10,8 @@ use Rattle.rules.specs.Bytes.{Bytes, zeros, toBe, laid}
 use Rattle.rules.specs.Reading.{Lent, inCdb, inOut, Held}
 use Rattle.rules.specs.Admission.{question}
 use Rattle.rules.specs.Writer.{Request, cdbFor, segmentFor}
-use Rattle.rules.specs.Samples.{text, slice, capability, request, sent, seen, says, called, plain, two, READ, WRITE, CLEAR, PUNCH, rota, Seen, Example, example, raw}
+use Rattle.rules.specs.Command.{READ, WRITE, CLEAR, PUNCH}
+use Rattle.rules.specs.Samples.{text, slice, capability, request, sent, seen, says, called, plain, two, rota, Seen, Example, example, raw}
 
 abbrev k : Bytes
 k = capability 0 16

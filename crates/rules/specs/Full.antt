@@ -6,6 +6,7 @@ use lib.ListN.{length, replicate}
 use Rattle.rules.specs.declared.Walk.the-variants.{Whole}
 use Rattle.rules.specs.declared.Spot.the-variants.{At}
 use Rattle.rules.specs.Bytes.{Bytes, zeros}
+use Rattle.rules.specs.Command.{READ}
 use Rattle.rules.specs.Segment.{walk}
 use Rattle.rules.specs.Samples.{sent}
 use Rattle.rules.specs.Writer.{Request, segmentFor}
@@ -13,7 +14,7 @@ use Rattle.rules.specs.Writer.{Request, segmentFor}
 pub request : Request
 request =
     record {
-      action = 0x8885;
+      action = READ;
       partition = 0x10000;
       object = 0x10000;
       start = 0;

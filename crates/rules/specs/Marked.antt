@@ -3,7 +3,8 @@ use mathlib.Core.Path.{_≡_, refl}
 use mathlib.Core.List.{List, [], _∷_, map}
 use Rattle.rules.specs.Bytes.{Bytes}
 use Rattle.rules.specs.Writer.{Request}
-use Rattle.rules.specs.Samples.{text, slice, capability, request, sent, seen, says, plain, two, READ, WRITE, CLEAR, PUNCH, rota, Example, example, after}
+use Rattle.rules.specs.Command.{READ, WRITE, CLEAR, PUNCH}
+use Rattle.rules.specs.Samples.{text, slice, capability, request, sent, seen, says, plain, two, rota, Example, example, after}
 
 -- one capability, range 0 to 16; an all-ones one from 0; one of 4 to 8
 abbrev k : Bytes

@@ -7,9 +7,11 @@ use mathlib.Core.List.{List, [], _∷_, _++_}
 use lib.ListN.{replicate}
 use Rattle.rules.specs.Bytes.{Bytes}
 use Rattle.rules.specs.Session
-use Rattle.rules.specs.Session.{Caller, first, second, Sent, Premise, same-commands, no-punch, apart, same-size, same-bytes, same-lengths, Holds, SameReplies}
+use Rattle.rules.specs.Session.{Caller, first, second, Sent, Premise, same-commands, no-punch, apart, same-size, same-bytes}
+use Rattle.rules.specs.Session.{same-lengths, Holds, SameReplies}
 use Rattle.rules.specs.Writer.{Request, cdbFor, segmentFor, lengthFor}
-use Rattle.rules.specs.Samples.{text, slice, capability, request, plain, called, READ, WRITE, PUNCH, rota}
+use Rattle.rules.specs.Command.{READ, WRITE, PUNCH}
+use Rattle.rules.specs.Samples.{text, slice, capability, request, plain, called, rota}
 
 -- Both start with the record `rota 8`: the logical length is 8.
 pub record Sessions : Type 0 where

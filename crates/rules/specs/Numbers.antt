@@ -5,7 +5,9 @@ use mathlib.Core.Option.{Option·getD}
 use mathlib.Core.List.{List, [], _∷_, map}
 use lib.Dec.{eqb}
 use Rattle.rules.specs.declared.Refusal.{Refusal}
-use Rattle.rules.specs.declared.Refusal.the-variants.{ObjectUnfit, CdbMalformed, ActionUnknown, OtherObject, ContinuationLength, SegmentHeader, Descriptor, ListForbidden, ListWithStart, ListFault, NotAdmitted, StartsBeyond, BufferShort, NoRoom}
+use Rattle.rules.specs.declared.Refusal.the-variants.{ObjectUnfit, CdbMalformed, ActionUnknown, OtherObject, ContinuationLength}
+use Rattle.rules.specs.declared.Refusal.the-variants.{SegmentHeader, Descriptor, ListForbidden, ListWithStart, ListFault, NotAdmitted}
+use Rattle.rules.specs.declared.Refusal.the-variants.{StartsBeyond, BufferShort, NoRoom}
 use Rattle.rules.specs.declared.Outcome.{Outcome}
 use Rattle.rules.specs.declared.Outcome.the-variants.{Done, Ended, Refused}
 use Rattle.rules.specs.Tests.{test, firstOf}

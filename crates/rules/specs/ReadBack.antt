@@ -87,8 +87,8 @@ pub record Same (q : Request) (d : Bytes) (c : Command) : Type 0 where
   pub ranges-are : ranges c ≡ rangesFor q
   pub capabilities-are : map (λ (k : Held). k .bytes) (capabilities c) ≡ capabilitiesFor q
   -- of the rows on form only row 4 can hold, and only for another object's record
-  pub row2 : cdbMalformed c ≡ false
-  pub row3 : actionUnknown c ≡ false
+  pub row2 : cdbMalformed (c .cdb) ≡ false
+  pub row3 : actionUnknown (c .cdb) ≡ false
   pub row4 : otherObject c ≡ not (eqb (q .partition) (c .on .partition)) || not (eqb (q .object) (c .on .object))
   pub row5 : continuationWrong c ≡ false
   pub row6 : segmentHeaderWrong c ≡ false

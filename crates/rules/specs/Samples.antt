@@ -35,7 +35,7 @@ unfoldable pub slice : String → (tail : ℕ) → Bytes
 slice t n = text t ++ zeros n
 
 -- the record: both IDs 10000h, maximum 16, tag and epoch 0; the length is 8 at first
-abbrev pub rota : (length : ℕ) → Record
+abbrev pub rota : (logical : ℕ) → Record
 rota n = record { partition = 0x10000; object = 0x10000; length = n; maximum = 16; tag = 0; epoch = 0 }
 
 -- a capability, READ and WRITE, for the object
@@ -72,18 +72,6 @@ plain k action start size = request k action start size false [] []
 abbrev pub two : (capability : Bytes) → (action start size start′ size′ : ℕ) → Request
 two k action o n o′ n′ = request k action 0 0 true (o ∷ o′ ∷ []) (n ∷ n′ ∷ [])
 
-abbrev pub READ : ℕ
-READ = 0x8885
-
-abbrev pub WRITE : ℕ
-WRITE = 0x8886
-
-abbrev pub CLEAR : ℕ
-CLEAR = 0x8889
-
-abbrev pub PUNCH : ℕ
-PUNCH = 0x8884
-
 -- the answer to a call; Data-In has `room` bytes, dots at first
 unfoldable pub called : (cdb out : Bytes) → Record → (slice : Bytes) → (room : ℕ) → Answered
 unfolding text Bytes.be Bytes.field Bytes.toBe Bytes.blank Bytes.laid Bytes.any Bytes.all Tests.firstOf Command.action Command.partitionOf
@@ -91,9 +79,11 @@ unfolding text Bytes.be Bytes.field Bytes.toBe Bytes.blank Bytes.laid Bytes.any 
     Command.soleRange Segment.kindAt Segment.padAt Segment.sizeAt Segment.dataAt Segment.next Segment.faults Segment.unless Segment.entriesHere
     Segment.extensionsHere Segment.here Segment.once Segment.follow Segment.walkFrom Segment.walk Segment.entryAt Segment.entriesFrom
     Segment.placesFrom Ranges.total Ranges.meet Ranges.overlapping Ranges.reach Reading.walked Reading.found Reading.listed Reading.ranges
-    Reading.solo Reading.extension Reading.capabilities Capability.permits Capability.forUserObject Capability.names Capability.tagged Capability.current Capability.matches Capability.bound Capability.inside Capability.has
+    Reading.solo Reading.extension Reading.capabilities Capability.permits Capability.forUserObject Capability.names Capability.tagged
+    Capability.current Capability.matches Capability.bound Capability.inside Capability.has
     Header.cdbMalformed Header.actionUnknown Header.otherObject Header.continued Header.continuationWrong Header.segmentHeaderWrong
-    Header.descriptorFaulty Header.listForbidden Header.header Header.readable Admission.fits Admission.admits Admission.admitting Admission.admitted
+    Header.descriptorFaulty Header.listForbidden Header.frontRows Header.segmentRows Header.header Header.readable Admission.fits
+    Admission.admits Admission.admitting Admission.admitted
     Admission.admittingFor Admission.question Rows.objectUnfit Rows.listWithStart Rows.listFault Rows.notAdmitted Rows.startsBeyond Rows.bufferShort
     Rows.raised Rows.noRoom Rows.rows Rows.refusal Numbers.sense Numbers.status Object.gathered Object.scattered Object.grown Object.punched
     Answer.refused Answer.read Answer.wrote Answer.cut Answer.carried Answer.settled Answer.answered Writer.paired Writer.entries Writer.lengthFor

@@ -4,13 +4,13 @@ use mathlib.Core.Path.{_≡_}
 use mathlib.Core.Bool.{Bool, true, false, _&&_, not}
 use mathlib.Core.List.{List, [], _∷_, _++_}
 use lib.ListN.{length}
-use lib.Dec.{T, eqb}
+use lib.Dec.{T}
 use Rattle.rules.specs.declared.Record.{Record}
 use Rattle.rules.specs.declared.Verb.{Verb}
 use Rattle.rules.specs.declared.Verb.the-variants.{Read, Write}
 use Rattle.rules.specs.declared.Answer.{Answer}
 use Rattle.rules.specs.Bytes.{Bytes, byte, any}
-use Rattle.rules.specs.Command.{Command, action}
+use Rattle.rules.specs.Command.{Command, action, verbOf, asks, isPunch}
 use Rattle.rules.specs.Capability.{has}
 use Rattle.rules.specs.Reading.{Held, capabilities}
 use Rattle.rules.specs.Header.{readable}
@@ -82,7 +82,7 @@ unfoldable pub may : Verb → Caller → Record → List Sent → ℕ → Bool
 may v who r xs p = any (λ (x : Sent). is who (x .by) && lets v r p x) xs
 
 unfoldable pub punches : Sent → Bool
-punches x = eqb (action (x .cdb)) 0x8884
+punches x = asks (verbOf (action (x .cdb))) isPunch
 
 -- What demand 3 supposes of two sessions, xs and ys. Both start with the record r, and with the slices a and b.
 pub data Premise : Type 0 where

@@ -15,11 +15,11 @@ pub struct Record {
 
 impl Record {
     // After WRITE and CLEAR: the record with the logical length that they leave.
-    pub fn with_length(self, length: u64) -> Record
-        ensures { λ r. ⌜ r ≡ lengthened self length ⌝ }
+    pub fn with_length(self, logical: u64) -> Record
+        ensures { λ r. ⌜ r ≡ lengthened self logical ⌝ }
     {
         let mut next = self;
-        next.length = length;
+        next.length = logical;
         next
     }
 
@@ -38,13 +38,21 @@ pub struct Range {
     pub size: u64,
 }
 
-// The four commands.
+// The four commands, and their service actions.
 pub enum Verb {
     Read,
     Write,
     Clear,
     Punch,
 }
+
+pub const READ: u64 = 0x8885;
+
+pub const WRITE: u64 = 0x8886;
+
+pub const CLEAR: u64 = 0x8889;
+
+pub const PUNCH: u64 = 0x8884;
 
 // Rows 1 to 14 of the table of numbers, in its order.
 pub enum Refusal {

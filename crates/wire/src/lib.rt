@@ -1,9 +1,9 @@
-// Big-endian numbers out of byte slices, of 16, 32 and 64 bits. A number is read without a loop, each byte with its own weight:
-// of such a sum the compiler makes one load.
+// Big-endian numbers in byte slices, read and written. A number is read without a loop, each byte with its own weight: of such a
+// sum the compiler makes one load. It is written by one loop for any width.
 ghost use mathlib.Core.Path.{_≡_};
 ghost use Prim.Native.Nat.{_+_, _<_, _≤_, _^_};
 ghost use lib.ListN.{length};
-ghost use Rattle.rules.specs.Bytes.{field};
+ghost use Rattle.rules.specs.Bytes.{field, laid, toBe};
 
 // a byte as a wider number
 fn wide(x: u8) -> u64
@@ -47,4 +47,32 @@ pub fn get64(s: &[u8], at: usize) -> u64
     let high = four(s, at);
     let low = four(s, at + 4);
     high * 4294967296 + low
+}
+
+// From the last byte to the first: what is left of the number is always the bytes still to come.
+fn put(d: &mut [u8], at: usize, n: usize, x: u64)
+    requires { ⌜ at + n ≤ length (now d) ⌝ }
+    ensures { λ _. ⌜ now (d .exit) ≡ laid at (toBe n x) (now (d .entry)) ⌝ }
+{
+    let mut y = x;
+    let mut i = n;
+    while 0 < i {
+        i -= 1;
+        d[at + i] = (y % 256) as u8;
+        y = y / 256;
+    }
+}
+
+pub fn put32(d: &mut [u8], at: usize, x: u32)
+    requires { ⌜ at + 4 ≤ length (now d) ⌝ }
+    ensures { λ _. ⌜ now (d .exit) ≡ laid at (toBe 4 x) (now (d .entry)) ⌝ }
+{
+    put(d, at, 4, x as u64);
+}
+
+pub fn put64(d: &mut [u8], at: usize, x: u64)
+    requires { ⌜ at + 8 ≤ length (now d) ⌝ }
+    ensures { λ _. ⌜ now (d .exit) ≡ laid at (toBe 8 x) (now (d .entry)) ⌝ }
+{
+    put(d, at, 8, x);
 }

@@ -11,7 +11,7 @@ use lib.Seq.{take-all, take-length}
 use lib.Dec.{ltb}
 use borrow.Author.Tests.{ne-eqb, eq-eqb, lt-ltb, le-ltb, le-leb, lt-leb, ltb-true, ltb-false}
 use Rattle.rules.specs.Tests.{Test, firstOf, isSome}
-use Rattle.rules.specs.Command.{verbOf, asks, isWrite}
+use Rattle.rules.specs.Command.{WRITE, CLEAR, PUNCH, verbOf, asks, isWrite}
 use Rattle.rules.specs.Ranges.{total, overlapping}
 use Rattle.rules.specs.Writer.{Request, paired, entries, lengthFor, refusals}
 use Rattle.rules.proofs.First.{holdsAt, nothing-holds}
@@ -64,11 +64,11 @@ module _ (q : Request) where
   unfolding listTests refusals
   too-long l n = by-test 0 (rw (l, lt-ltb 64 (length (q .offsets)) n, or-true))
 
-  pub cleared : q .listed ≡ true → q .action ≡ 0x8889 → Refused ≡ planned q
+  pub cleared : q .listed ≡ true → q .action ≡ CLEAR → Refused ≡ planned q
   unfolding listTests refusals verbOf firstOf
   cleared l a = by-test 1 (rw (l, a))
 
-  pub punched : q .listed ≡ true → q .action ≡ 0x8884 → Refused ≡ planned q
+  pub punched : q .listed ≡ true → q .action ≡ PUNCH → Refused ≡ planned q
   unfolding listTests refusals verbOf firstOf
   punched l a = by-test 1 (rw (l, a))
 
@@ -100,7 +100,7 @@ module _ (q : Request) where
   unfolding entries
   overlap-of e is = is ∙ rw (take-length (q .offsets), all-taken e)
 
-  pub shared : {b : Bool} → q .listed ≡ true → length (q .offsets) ≡ length (q .lengths) → q .action ≡ 0x8886
+  pub shared : {b : Bool} → q .listed ≡ true → length (q .offsets) ≡ length (q .lengths) → q .action ≡ WRITE
       → b ≡ overlapping (paired (take (length (q .offsets)) (q .offsets)) (take (length (q .offsets)) (q .lengths))) → b ≡ true
       → Refused ≡ planned q
   unfolding listTests refusals entries verbOf firstOf
@@ -111,8 +111,8 @@ module _ (q : Request) where
     pub listed : q .listed ≡ true
     pub equal : length (q .offsets) ≡ length (q .lengths)
     pub few : length (q .offsets) ≤ 64
-    pub clear : q .action ≡ 0x8889 → ⊥
-    pub punch : q .action ≡ 0x8884 → ⊥
+    pub clear : q .action ≡ CLEAR → ⊥
+    pub punch : q .action ≡ PUNCH → ⊥
     pub start : q .start ≡ 0
     pub sum : (os : List ℕ) → length os ≡ length (q .offsets) → Fits total′ ≡ summed (total (paired os (take (length (q .offsets)) (q .lengths))))
 
@@ -135,5 +135,5 @@ module _ (q : Request) where
       → b ≡ overlapping (paired (take (length (q .offsets)) (q .offsets)) (take (length (q .offsets)) (q .lengths))) → b ≡ false → Length t ≡ planned q
   apart k is f = passes k (rw (sym (overlap-of (k .equal) is) ∙ f) (and-false (asks (verbOf (q .action)) isWrite)))
 
-  pub no-write : {t : ℕ} → Sound t → (q .action ≡ 0x8886 → ⊥) → Length t ≡ planned q
+  pub no-write : {t : ℕ} → Sound t → (q .action ≡ WRITE → ⊥) → Length t ≡ planned q
   no-write k w = passes k (rw (not-write (q .action) w))

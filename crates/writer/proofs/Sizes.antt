@@ -4,7 +4,7 @@ use mathlib.Core.Path.{_≡_}
 use mathlib.Core.Bool.{Bool, true, false}
 use native.Mathlib.Omega.{arith}
 use borrow.Author.Tests.{lt-ltb, le-ltb}
-use Rattle.layout.specs.Parts.{sizeFor}
+use Rattle.writer.specs.SegmentParts.{sizeFor}
 
 module _ (l : Bool) (n k : ℕ) where
   pub list-alone : l ≡ true → n ≤ 64 → k ≤ 104 → (48 + 16 * n ≡ sizeFor l n k) × (48 + 16 * n ≤ 1912)

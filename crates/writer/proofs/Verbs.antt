@@ -9,33 +9,33 @@ use Prim.Native.Nat.{_≤_, _<_}
 use Rattle.rules.specs.declared.Verb.{Verb}
 use Rattle.rules.specs.declared.Verb.the-variants.{Read, Write, Clear, Punch}
 use Rattle.rules.specs.Tests.{firstOf, isSome}
-use Rattle.rules.specs.Command.{verbOf, asks, isWrite, isClear, isPunch}
+use Rattle.rules.specs.Command.{READ, WRITE, CLEAR, PUNCH, verbOf, asks, isWrite, isClear, isPunch}
 
 module _ (a : ℕ) where
-  pub is-read : a ≡ 0x8885 → true ≡ isSome (verbOf a)
+  pub is-read : a ≡ READ → true ≡ isSome (verbOf a)
   unfolding verbOf firstOf
   is-read e = rw e
 
-  pub is-write : a ≡ 0x8886 → true ≡ isSome (verbOf a)
+  pub is-write : a ≡ WRITE → true ≡ isSome (verbOf a)
   unfolding verbOf firstOf
   is-write e = rw e
 
-  pub is-clear : a ≡ 0x8889 → true ≡ isSome (verbOf a)
+  pub is-clear : a ≡ CLEAR → true ≡ isSome (verbOf a)
   unfolding verbOf firstOf
   is-clear e = rw e
 
-  pub is-punch : (a ≡ 0x8885 → ⊥) → (a ≡ 0x8886 → ⊥) → (a ≡ 0x8889 → ⊥) → eqb a 0x8884 ≡ isSome (verbOf a)
+  pub is-punch : (a ≡ READ → ⊥) → (a ≡ WRITE → ⊥) → (a ≡ CLEAR → ⊥) → eqb a PUNCH ≡ isSome (verbOf a)
   unfolding verbOf firstOf
-  is-punch r w c = rw (ne-eqb a 0x8885 r, ne-eqb a 0x8886 w, ne-eqb a 0x8889 c) (go (eqb a 0x8884))
+  is-punch r w c = rw (ne-eqb a READ r, ne-eqb a WRITE w, ne-eqb a CLEAR c) (go (eqb a PUNCH))
     where
       go : (b : Bool) → b ≡ isSome (cond b (some Punch) none)
       go true = refl
       go false = refl
 
   -- only WRITE writes
-  pub not-write : (a ≡ 0x8886 → ⊥) → asks (verbOf a) isWrite ≡ false
+  pub not-write : (a ≡ WRITE → ⊥) → asks (verbOf a) isWrite ≡ false
   unfolding verbOf firstOf
-  not-write w = rw (ne-eqb a 0x8886 w) (go (eqb a 0x8885) (eqb a 0x8889) (eqb a 0x8884))
+  not-write w = rw (ne-eqb a WRITE w) (go (eqb a READ) (eqb a CLEAR) (eqb a PUNCH))
     where
       go : (r c p : Bool) → asks (cond r (some Read) (cond c (some Clear) (cond p (some Punch) none))) isWrite ≡ false
       go true c p = refl
@@ -44,9 +44,9 @@ module _ (a : ℕ) where
       go false false false = refl
 
   -- only CLEAR and PUNCH have no list
-  pub may-list : (a ≡ 0x8889 → ⊥) → (a ≡ 0x8884 → ⊥) → asks (verbOf a) (λ (v : Verb). isClear v || isPunch v) ≡ false
+  pub may-list : (a ≡ CLEAR → ⊥) → (a ≡ PUNCH → ⊥) → asks (verbOf a) (λ (v : Verb). isClear v || isPunch v) ≡ false
   unfolding verbOf firstOf
-  may-list c p = rw (ne-eqb a 0x8889 c, ne-eqb a 0x8884 p) (go (eqb a 0x8885) (eqb a 0x8886))
+  may-list c p = rw (ne-eqb a CLEAR c, ne-eqb a PUNCH p) (go (eqb a READ) (eqb a WRITE))
     where
       go : (r w : Bool) → asks (cond r (some Read) (cond w (some Write) none)) (λ (v : Verb). isClear v || isPunch v) ≡ false
       go true w = refl

@@ -18,11 +18,11 @@ use Rattle.rules.proofs.Accepted.{Accepted, accepted}
 use Rattle.writer.specs.declared.Plan.{Plan}
 use Rattle.writer.specs.declared.Plan.the-variants.{Length, Refused}
 use Rattle.writer.specs.declared.Written.{Written}
-use Rattle.cdb.specs.Parts.{cdbParts}
-use Rattle.layout.specs.Parts.{segmentHead, listPart, extensionPart, segmentParts, sizeFor}
+use Rattle.writer.specs.CdbParts.{cdbParts}
+use Rattle.writer.specs.SegmentParts.{segmentHead, listPart, extensionPart, segmentParts, sizeFor}
 use Rattle.writer.specs.Planning.{listTests, planned}
 use Rattle.writer.specs.Post.{Wrote}
-use Rattle.layout.proofs.Pieces.{parts-length}
+use Rattle.writer.proofs.SegmentPieces.{parts-length}
 
 -- ---- refusals
 

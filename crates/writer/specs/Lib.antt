@@ -1,2 +1,4 @@
 pub mod Planning
 pub mod Post
+pub mod CdbParts
+pub mod SegmentParts

@@ -5,7 +5,7 @@ use borrow.Author.Tests.{not-true, not-false}
 use lib.ListN.{take}
 use Rattle.rules.specs.Writer.{paired}
 use Rattle.admission.specs.Allowed.{insideOne}
-use Rattle.header.proofs.Entries.{rest-begun}
+use Rattle.segment.proofs.Entries.{rest-begun}
 use Rattle.admission.proofs.Search.{Each, each-fails, each-on, each-done}
 use Rattle.admission.proofs.all_inside.Statement.{statement}
 use Rattle.admission.proofs.all_inside.Tie as tie
@@ -26,7 +26,9 @@ lies-inside-requires : tie.Need-lies-inside-requires Inv-loop μ-loop
 lies-inside-requires c κs = search needs
 
 returns : tie.Need-returns Inv-loop μ-loop
-returns c = each-fails _ _ _ _ _ _ (c .before .before .before .before .loop .inv) (c .before .before .before .loop-test .taken) _ (c .before .before .entry-at .ensures) _ (c .before .lies-inside .ensures) (not-true _ (c .if1 .taken))
+returns c =
+    each-fails _ _ _ _ _ _ (c .before .before .before .before .loop .inv) (c .before .before .before .loop-test .taken) _
+    (c .before .before .entry-at .ensures) _ (c .before .lies-inside .ensures) (not-true _ (c .if1 .taken))
 
 add-from : tie.Need-add-from Inv-loop μ-loop
 add-from c = let i = c .before .before .before .before .loop .inv .inside in omega arith
@@ -38,7 +40,9 @@ loop-less : tie.Need-loop-less Inv-loop μ-loop
 loop-less c = search needs
 
 loop-again : tie.Need-loop-again Inv-loop μ-loop
-loop-again c = each-on _ _ _ _ _ _ (c .before .before .before .before .loop .inv) (c .before .before .before .loop-test .taken) _ (c .before .before .entry-at .ensures) _ (c .before .lies-inside .ensures) (not-false _ (c .if1 .left))
+loop-again c =
+    each-on _ _ _ _ _ _ (c .before .before .before .before .loop .inv) (c .before .before .before .loop-test .taken) _
+    (c .before .before .entry-at .ensures) _ (c .before .lies-inside .ensures) (not-false _ (c .if1 .left))
 
 returns-2 : tie.Need-returns-2 Inv-loop μ-loop
 returns-2 c = each-done _ _ _ _ _ _ (c .before .loop .inv) (c .loop-test .left)

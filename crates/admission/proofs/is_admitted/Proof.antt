@@ -1,4 +1,4 @@
-use Rattle.sought.proofs.Meaning.{part-ends, part-reads}
+use Rattle.capability.proofs.Meaning.{part-ends, part-reads}
 use Rattle.admission.proofs.Meaning.{part-admitted}
 use borrow.Author.Needs.{needs}
 use Rattle.admission.proofs.is_admitted.Statement.{statement}

@@ -5,7 +5,7 @@ use borrow.Author.Needs.{needs}
 use native.Mathlib.Omega.{arith}
 use Rattle.rules.specs.Bytes.{any}
 use Rattle.rules.proofs.Paired.{asks-any, Left, left-all, left-hit, left-on, left-none}
-use Rattle.allowance.specs.Allowance.{insideOf}
+use Rattle.capability.specs.Allowance.{insideOf}
 use Rattle.admission.proofs.lies_inside.Statement.{statement}
 use Rattle.admission.proofs.lies_inside.Tie as tie
 

@@ -35,7 +35,10 @@ same-length-2 : tie.Need-same-length-2
 same-length-2 c = search needs
 
 returns-2 : tie.Need-returns-2
-returns-2 c = noted-one _ _ _ _ _ _ (c .before .before .is-match .ensures) (c .before .if1 .left) (c .before .before .before .before .before .before .pre .1) (c .before .before .before .before .before .before .pre .2) _ (c .allowance-of .ensures)
+returns-2 c =
+    noted-one _ _ _ _ _ _ (c .before .before .is-match .ensures) (c .before .if1 .left)
+    (c .before .before .before .before .before .before .pre .1) (c .before .before .before .before .before .before .pre .2) _
+    (c .allowance-of .ensures)
 
 pub note-spec : {M : Type 1} → statement M
 note-spec =

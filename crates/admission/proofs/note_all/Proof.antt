@@ -1,7 +1,7 @@
 -- `admission::note_all` meets its contract: the CDB's capability, then the extension's.
 use borrow.Author.Needs.{needs}
 use native.Mathlib.Omega.{arith}
-use Rattle.sought.proofs.Pieces.{extension-lies}
+use Rattle.segment.proofs.Lying.{lies}
 use Rattle.admission.proofs.Deciding.{cdb-alone, with-extension, room-left}
 use Rattle.admission.proofs.note_all.Statement.{statement}
 use Rattle.admission.proofs.note_all.Tie as tie
@@ -29,10 +29,14 @@ enum-known-extension c = search needs
 
 note-extension-requires : tie.Need-note-extension-requires
 note-extension-requires c κs =
-    let s = c .before .before .before .before .before .before .before .before .before .before .before .before .before .before .before .before .before .before .before in
+    let n = c .before .before .before .before .before .before .before .before .before .before in
+    let w = n .before .before .before .before in
+    let s = w .before .before .before .before .before in
     let e = c .before .before .before .extension .given .1 in
-    let l = room-left _ _ _ (s .pre .0) (s .args .on) _ (c .before .before .before .before .before .before .before .before .before .before .before .before .before .before .sought-by .ensures) _ _ _ _ _ (c .before .before .before .before .before .before .before .before .before .before .note .ensures) _ e in
-    (extension-lies _ _ _ _ (s .pre .0) e, (omega (arith, l, s .pre .1 .0, c .before .before .before .before .before .before .before .before .before .starts .given), omega (arith, l, s .pre .1 .1, c .before .before .before .before .before .before .before .sizes .given)))
+    let l = room-left _ _ _ (s .pre .0) (s .args .on) _ (w .sought-by .ensures) _ _ _ _ _ (n .note .ensures) _ e in
+    let starts = c .before .before .before .before .before .before .before .before .before .starts .given in
+    let sizes = c .before .before .before .before .before .before .before .sizes .given in
+    (lies _ _ _ (s .pre .0 .extension) e, (omega (arith, l, s .pre .1 .0, starts), omega (arith, l, s .pre .1 .1, sizes)))
 
 same-length : tie.Need-same-length
 same-length c = search needs
@@ -41,7 +45,11 @@ same-length-2 : tie.Need-same-length-2
 same-length-2 c = search needs
 
 returns : tie.Need-returns
-returns c = let s = c .before .before .before .before .before .before .before .before .before .before .before .before .before .before .before .before in cdb-alone _ _ _ (s .pre .0) (s .args .on) _ (c .before .before .before .before .before .before .before .before .before .before .before .sought-by .ensures) _ _ _ _ _ (c .before .before .before .before .before .before .before .note .ensures) (c .enum-told .given .1)
+returns c =
+    let n = c .before .before .before .before .before .before .before in
+    let w = n .before .before .before .before in
+    let s = w .before .before .before .before .before in
+    cdb-alone _ _ _ (s .pre .0) (s .args .on) _ (w .sought-by .ensures) _ _ _ _ _ (n .note .ensures) (c .enum-told .given .1)
 
 same-length-3 : tie.Need-same-length-3
 same-length-3 c = search needs
@@ -50,7 +58,13 @@ same-length-4 : tie.Need-same-length-4
 same-length-4 c = search needs
 
 returns-2 : tie.Need-returns-2
-returns-2 c = let s = c .before .before .before .before .before .before .before .before .before .before .before .before .before .before .before .before .before .before .before .before .before .before .before .before in with-extension _ _ _ (s .pre .0) (s .args .on) _ (c .before .before .before .before .before .before .before .before .before .before .before .before .before .before .before .before .before .before .before .sought-by .ensures) _ _ _ _ _ (c .before .before .before .before .before .before .before .before .before .before .before .before .before .before .before .note .ensures) _ (c .before .before .before .before .before .before .before .before .extension .given .1) _ _ _ (c .before .before .before .before .note-extension .ensures)
+returns-2 c =
+    let e = c .before .before .before .before .before .before .before .before .extension .given .1 in
+    let n = c .before .before .before .before .before .before .before .before .before .before .before .before .before .before .before in
+    let w = n .before .before .before .before in
+    let s = w .before .before .before .before .before in
+    with-extension _ _ _ (s .pre .0) (s .args .on) _ (w .sought-by .ensures) _ _ _ _ _ (n .note .ensures) _ e _ _ _
+    (c .before .before .before .before .note-extension .ensures)
 
 pub note-all-spec : {M : Type 1} → statement M
 note-all-spec =

@@ -1,13 +1,14 @@
 -- `admission::note_extension` meets its contract: what the capabilities passed allow is noted.
 use borrow.Author.Needs.{needs}
 use native.Mathlib.Omega.{arith}
-use Rattle.sought.proofs.Pieces.{piece-length}
+use Rattle.capability.proofs.Pieces.{piece-length}
 use Rattle.admission.proofs.Search.{Noting, noting-begun, noting-on, noting-done}
 use Rattle.admission.proofs.note_extension.Statement.{statement}
 use Rattle.admission.proofs.note_extension.Tie as tie
 
 abbrev Inv-loop : tie.InvT-loop
-Inv-loop segment by starts₀ sizes₀ n from₀ left₀ count₀ starts sizes from left count = Noting by segment from₀ left₀ n starts₀ sizes₀ starts sizes from left count
+Inv-loop segment by starts₀ sizes₀ n from₀ left₀ count₀ starts sizes from left count =
+    Noting by segment from₀ left₀ n starts₀ sizes₀ starts sizes from left count
 
 abbrev μ-loop : tie.MeasureT-loop
 μ-loop segment by starts₀ sizes₀ n from₀ left₀ count₀ starts sizes from left count = left
@@ -41,7 +42,10 @@ loop-less : tie.Need-loop-less Inv-loop μ-loop
 loop-less c = search needs
 
 loop-again : tie.Need-loop-again Inv-loop μ-loop
-loop-again c = noting-on _ _ _ _ _ _ _ _ _ _ _ _ (c .before .before .before .before .before .before .before .before .before .loop .inv) (c .before .before .before .before .before .before .before .before .loop-test .taken) _ _ _ (c .before .before .before .before .note .ensures) (c .before .before .before .starts .given) (c .before .sizes .given)
+loop-again c =
+    noting-on _ _ _ _ _ _ _ _ _ _ _ _ (c .before .before .before .before .before .before .before .before .before .loop .inv)
+    (c .before .before .before .before .before .before .before .before .loop-test .taken) _ _ _
+    (c .before .before .before .before .note .ensures) (c .before .before .before .starts .given) (c .before .sizes .given)
 
 same-length : tie.Need-same-length Inv-loop μ-loop
 same-length c = c .before .loop .inv .starts

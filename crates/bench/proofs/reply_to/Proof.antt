@@ -1,5 +1,5 @@
 use mathlib.Core.Path.{sym, _∙_}
-use Rattle.sections.proofs.Layouts.{sound-inside}
+use Rattle.callfile.proofs.Layouts.{sound-inside}
 use Rattle.bench.proofs.Replies.{bad-file, told}
 use borrow.Author.Needs.{needs}
 use Rattle.bench.proofs.reply_to.Statement.{statement}

@@ -16,10 +16,14 @@ returns-2 : tie.Need-returns-2
 returns-2 c = no-object _ _ _ _ _ (c .before .before .before .get64 .ensures) (c .before .before .get642 .ensures) (c .before .if1 .left) (c .if2 .taken)
 
 returns-3 : tie.Need-returns-3
-returns-3 c = other-partition _ _ _ _ _ (c .before .before .before .before .get64 .ensures) (c .before .before .before .get642 .ensures) (c .before .before .if1 .left) (c .before .if2 .left) (c .if3 .taken)
+returns-3 c =
+    other-partition _ _ _ _ _ (c .before .before .before .before .get64 .ensures) (c .before .before .before .get642 .ensures)
+    (c .before .before .if1 .left) (c .before .if2 .left) (c .if3 .taken)
 
 returns-4 : tie.Need-returns-4
-returns-4 c = this-object _ _ _ _ _ (c .before .before .before .before .get64 .ensures) (c .before .before .before .get642 .ensures) (c .before .before .if1 .left) (c .before .if2 .left) (c .if3 .left)
+returns-4 c =
+    this-object _ _ _ _ _ (c .before .before .before .before .get64 .ensures) (c .before .before .before .get642 .ensures)
+    (c .before .before .if1 .left) (c .before .if2 .left) (c .if3 .left)
 
 pub names-object-spec : {M : Type 1} → statement M
 names-object-spec =

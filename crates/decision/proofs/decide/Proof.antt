@@ -20,10 +20,18 @@ enum-known-reading-2 : tie.Need-enum-known-reading-2
 enum-known-reading-2 c = search needs
 
 decide-readable-requires : tie.Need-decide-readable-requires
-decide-readable-requires c κs = record { object = object-fits _ _ (c .before .before .before .before .before .before .if1 .left) (c .before .before .before .before .if2 .left); reading = sym (c .before .before .before .read-command .ensures) ∙ c .before .reading2 .given .1 }
+decide-readable-requires c κs =
+    record {
+      object = object-fits _ _ (c .before .before .before .before .before .before .if1 .left)
+          (c .before .before .before .before .if2 .left);
+      reading = sym (c .before .before .before .read-command .ensures)
+          ∙ c .before .reading2 .given .1;
+    }
 
 returns-3 : tie.Need-returns-3
-returns-3 c = not-readable _ _ _ (object-fits _ _ (c .before .before .before .before .before .before .if1 .left) (c .before .before .before .before .if2 .left)) (sym (c .before .before .before .read-command .ensures) ∙ c .before .reading .given .1)
+returns-3 c =
+    not-readable _ _ _ (object-fits _ _ (c .before .before .before .before .before .before .if1 .left)
+    (c .before .before .before .before .if2 .left)) (sym (c .before .before .before .read-command .ensures) ∙ c .before .reading .given .1)
 
 returns-4 : tie.Need-returns-4
 returns-4 c = search needs

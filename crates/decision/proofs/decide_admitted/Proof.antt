@@ -25,13 +25,21 @@ sub-decide-write : tie.Need-sub-decide-write
 sub-decide-write c = let l = part-ends _ _ _ (c .before .before .before .before .before .pre .readable) in search needs
 
 decide-write-requires : tie.Need-decide-write-requires
-decide-write-requires c κs = (held _ _ _ (c .before .before .before .before .before .pre .readable), part-lists _ _ _ (c .before .before .before .before .before .pre .readable))
+decide-write-requires c κs = (
+  held _ _ _ (c .before .before .before .before .before .pre .readable),
+  part-lists _ _ _
+      (c .before .before .before .before .before .pre .readable),
+)
 
 enum-told-3 : tie.Need-enum-told-3
 enum-told-3 c = search needs
 
 decide-clear-requires : tie.Need-decide-clear-requires
-decide-clear-requires c κs = (held _ _ _ (c .before .before .before .before .before .pre .readable), part-lists _ _ _ (c .before .before .before .before .before .pre .readable))
+decide-clear-requires c κs = (
+  held _ _ _ (c .before .before .before .before .before .pre .readable),
+  part-lists _ _ _
+      (c .before .before .before .before .before .pre .readable),
+)
 
 enum-told-4 : tie.Need-enum-told-4
 enum-told-4 c = search needs

@@ -22,16 +22,28 @@ has-fault-requires : tie.Need-has-fault-requires
 has-fault-requires c κs = part-lists _ _ _ (c .before .before .before .before .before .pre)
 
 returns-2 : tie.Need-returns-2
-returns-2 c = list-refused _ _ _ (c .before .before .before .before .before .before .before .pre) (starts-right _ _ _ (c .before .before .before .before .before .before .before .pre) _ (c .before .before .before .before .has-wrong-start .ensures) (c .before .before .before .if1 .left)) _ (c .before .has-fault .ensures) (c .if2 .taken)
+returns-2 c =
+    list-refused _ _ _ (c .before .before .before .before .before .before .before .pre)
+    (starts-right _ _ _ (c .before .before .before .before .before .before .before .pre) _
+    (c .before .before .before .before .has-wrong-start .ensures) (c .before .before .before .if1 .left)) _ (c .before .has-fault .ensures)
+    (c .if2 .taken)
 
 is-admitted-requires : tie.Need-is-admitted-requires
 is-admitted-requires c κs = search needs
 
 returns-3 : tie.Need-returns-3
-returns-3 c = not-let-in _ _ _ (c .before .before .before .before .before .before .before .before .before .pre) (starts-right _ _ _ (c .before .before .before .before .before .before .before .before .before .pre) _ (c .before .before .before .before .before .before .has-wrong-start .ensures) (c .before .before .before .before .before .if1 .left)) _ (c .before .before .before .has-fault .ensures) (c .before .before .if2 .left) _ (c .before .is-admitted .ensures) (c .if3 .taken)
+returns-3 c =
+    not-let-in _ _ _ (c .before .before .before .before .before .before .before .before .before .pre)
+    (starts-right _ _ _ (c .before .before .before .before .before .before .before .before .before .pre) _
+    (c .before .before .before .before .before .before .has-wrong-start .ensures) (c .before .before .before .before .before .if1 .left)) _
+    (c .before .before .before .has-fault .ensures) (c .before .before .if2 .left) _ (c .before .is-admitted .ensures) (c .if3 .taken)
 
 decide-admitted-requires : tie.Need-decide-admitted-requires
-decide-admitted-requires c κs = let-in _ _ _ (c .before .before .before .before .before .before .before .before .before .pre) (starts-right _ _ _ (c .before .before .before .before .before .before .before .before .before .pre) _ (c .before .before .before .before .before .before .has-wrong-start .ensures) (c .before .before .before .before .before .if1 .left)) _ (c .before .before .before .has-fault .ensures) (c .before .before .if2 .left) _ (c .before .is-admitted .ensures) (c .if3 .left)
+decide-admitted-requires c κs =
+    let-in _ _ _ (c .before .before .before .before .before .before .before .before .before .pre)
+    (starts-right _ _ _ (c .before .before .before .before .before .before .before .before .before .pre) _
+    (c .before .before .before .before .before .before .has-wrong-start .ensures) (c .before .before .before .before .before .if1 .left)) _
+    (c .before .before .before .has-fault .ensures) (c .before .before .if2 .left) _ (c .before .is-admitted .ensures) (c .if3 .left)
 
 returns-4 : tie.Need-returns-4
 returns-4 c = search needs

@@ -1,5 +1,5 @@
 use Rattle.decision.proofs.Verbwise.{a-list}
-use Rattle.header.proofs.Ranges.{list-lies}
+use Rattle.segment.proofs.Lying.{lies}
 use borrow.Author.Needs.{needs}
 use Rattle.decision.proofs.has_fault.Statement.{statement}
 use Rattle.decision.proofs.has_fault.Tie as tie
@@ -14,7 +14,7 @@ is-write-requires : tie.Need-is-write-requires
 is-write-requires c κs = search needs
 
 is-list-fault-requires : tie.Need-is-list-fault-requires
-is-list-fault-requires c κs = list-lies _ _ _ (c .before .before .before .before .before .before .pre) (c .before .before .list .given .1)
+is-list-fault-requires c κs = lies _ _ _ (c .before .before .before .before .before .before .pre) (c .before .before .list .given .1)
 
 returns : tie.Need-returns
 returns c = search needs

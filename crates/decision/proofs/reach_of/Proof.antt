@@ -1,4 +1,4 @@
-use Rattle.header.proofs.Ranges.{list-lies}
+use Rattle.segment.proofs.Lying.{lies}
 use Rattle.decision.proofs.Spots.{sole-reach, entries-reach}
 use borrow.Author.Needs.{needs}
 use Rattle.decision.proofs.reach_of.Statement.{statement}
@@ -14,7 +14,7 @@ enum-known-list : tie.Need-enum-known-list
 enum-known-list c = search needs
 
 reach-in-requires : tie.Need-reach-in-requires
-reach-in-requires c κs = let p = c .before .before .before .before .before .pre in (p .0, list-lies _ _ _ (p .1) (c .before .list .given .1))
+reach-in-requires c κs = let p = c .before .before .before .before .before .pre in (p .0, lies _ _ _ (p .1) (c .before .list .given .1))
 
 returns : tie.Need-returns
 returns c = sole-reach _ _ _ _ (c .before .enum-told .given .1) _ (c .reach-more .ensures)

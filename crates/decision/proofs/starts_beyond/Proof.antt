@@ -1,4 +1,4 @@
-use Rattle.header.proofs.Ranges.{list-lies}
+use Rattle.segment.proofs.Lying.{lies}
 use Rattle.decision.proofs.Spots.{sole-beyond, entries-beyond}
 use borrow.Author.Needs.{needs}
 use Rattle.decision.proofs.starts_beyond.Statement.{statement}
@@ -11,7 +11,7 @@ enum-known-list : tie.Need-enum-known-list
 enum-known-list c = search needs
 
 starts-beyond-in-requires : tie.Need-starts-beyond-in-requires
-starts-beyond-in-requires c κs = list-lies _ _ _ (c .before .before .before .before .before .pre) (c .before .list .given .1)
+starts-beyond-in-requires c κs = lies _ _ _ (c .before .before .before .before .before .pre) (c .before .list .given .1)
 
 returns : tie.Need-returns
 returns c = sole-beyond _ _ _ (c .before .enum-told .given .1)

@@ -1,7 +1,8 @@
--- `engine::execute` meets its contract: each deed leaves the answer that the decision asks for.
+-- `engine::execute` meets its contract: each action leaves the answer that the decision asks for.
 use denote.Ref.{now}
 use borrow.Author.Needs.{needs}
-use Rattle.engine.proofs.Deciding.{refused-told, read-ends, for-read, was-read, write-ends, for-write, was-written, for-clear, was-cleared, for-punch, was-punched}
+use Rattle.engine.proofs.Deciding.{refused-told, read-ends, for-read, was-read, write-ends, for-write, was-written, for-clear}
+use Rattle.engine.proofs.Deciding.{was-cleared, for-punch, was-punched}
 use Rattle.engine.proofs.execute.Statement.{statement}
 use Rattle.engine.proofs.execute.Tie as tie
 
@@ -29,7 +30,8 @@ part-read-end c =
 read-requires : tie.Need-read-requires
 read-requires c κs =
     let a = c .before .before .before .before .before .before .before .before .before .before .before .args in
-    for-read _ (now (a .slice)) (now (a .input)) _ (c .before .before .before .before .before .before .decide .ensures) _ (c .before .before .before .before .decision2 .given .1)
+    for-read _ (now (a .slice)) (now (a .input)) _ (c .before .before .before .before .before .before .decide .ensures) _
+    (c .before .before .before .before .decision2 .given .1)
 
 enum-known-decision-3 : tie.Need-enum-known-decision-3
 enum-known-decision-3 c = search needs
@@ -49,7 +51,8 @@ part-write-end c =
 write-requires : tie.Need-write-requires
 write-requires c κs =
     let a = c .before .before .before .before .before .before .before .before .before .before .args in
-    for-write _ (now (a .slice)) (now (a .input)) _ (c .before .before .before .before .before .decide .ensures) _ _ (c .before .before .before .decision3 .given .1)
+    for-write _ (now (a .slice)) (now (a .input)) _ (c .before .before .before .before .before .decide .ensures) _ _
+    (c .before .before .before .decision3 .given .1)
 
 enum-known-decision-4 : tie.Need-enum-known-decision-4
 enum-known-decision-4 c = search needs
@@ -81,7 +84,9 @@ same-length-2 c = search needs
 returns-2 : tie.Need-returns-2
 returns-2 c =
     let a = c .before .before .before .before .before .before .before .before .before .before .before .before .before .before .args in
-    was-read _ (now (a .slice)) (now (a .input)) _ (c .before .before .before .before .before .before .before .before .before .decide .ensures) _ (c .before .before .before .before .before .before .before .decision2 .given .1) _ _ (c .before .before .read .ensures)
+    was-read _ (now (a .slice)) (now (a .input)) _
+    (c .before .before .before .before .before .before .before .before .before .decide .ensures) _
+    (c .before .before .before .before .before .before .before .decision2 .given .1) _ _ (c .before .before .read .ensures)
 
 same-length-3 : tie.Need-same-length-3
 same-length-3 c = search needs
@@ -89,7 +94,8 @@ same-length-3 c = search needs
 returns-3 : tie.Need-returns-3
 returns-3 c =
     let a = c .before .before .before .before .before .before .before .before .before .before .before .before .before .args in
-    was-written _ (now (a .slice)) (now (a .input)) _ (c .before .before .before .before .before .before .before .before .decide .ensures) _ _ (c .before .before .before .before .before .before .decision3 .given .1) _ _ (c .before .before .write .ensures)
+    was-written _ (now (a .slice)) (now (a .input)) _ (c .before .before .before .before .before .before .before .before .decide .ensures) _
+    _ (c .before .before .before .before .before .before .decision3 .given .1) _ _ (c .before .before .write .ensures)
 
 same-length-4 : tie.Need-same-length-4
 same-length-4 c = search needs
@@ -97,7 +103,8 @@ same-length-4 c = search needs
 returns-4 : tie.Need-returns-4
 returns-4 c =
     let a = c .before .before .before .before .before .before .before .before .before .before .before .before .args in
-    was-cleared _ (now (a .slice)) (now (a .input)) _ (c .before .before .before .before .before .before .before .decide .ensures) _ _ (c .before .before .before .before .before .decision4 .given .1) _ _ (c .before .before .clear .ensures)
+    was-cleared _ (now (a .slice)) (now (a .input)) _ (c .before .before .before .before .before .before .before .decide .ensures) _ _
+    (c .before .before .before .before .before .decision4 .given .1) _ _ (c .before .before .clear .ensures)
 
 same-length-5 : tie.Need-same-length-5
 same-length-5 c = search needs
@@ -105,7 +112,12 @@ same-length-5 c = search needs
 returns-5 : tie.Need-returns-5
 returns-5 c =
     let a = c .before .before .before .before .before .before .before .before .before .before .before .before .args in
-    was-punched _ (now (a .slice)) (now (a .input)) _ (c .before .before .before .before .before .before .before .decide .ensures) _ (c .before .before .before .before .before .decision5 .given .1) _ _ (c .before .before .punch .ensures)
+    was-punched _ (now (a .slice)) (now (a .input)) _ (c .before .before .before .before .before .before .before .decide .ensures) _
+    (c .before .before .before .before .before .decision5 .given .1) _ _ (c .before .before .punch .ensures)
 
 pub execute-spec : {M : Type 1} → statement M
-execute-spec = tie.close (tie.spec decide-requires enum-known-decision enum-known-decision-2 sub-read part-read-start part-read-end read-requires enum-known-decision-3 sub-write part-write-start part-write-end write-requires enum-known-decision-4 clear-requires enum-known-decision-5 punch-requires returns same-length same-length-2 returns-2 same-length-3 returns-3 same-length-4 returns-4 same-length-5 returns-5)
+execute-spec =
+    tie.close (tie.spec decide-requires enum-known-decision enum-known-decision-2 sub-read part-read-start part-read-end read-requires
+    enum-known-decision-3 sub-write part-write-start part-write-end write-requires enum-known-decision-4 clear-requires
+    enum-known-decision-5 punch-requires returns same-length same-length-2 returns-2 same-length-3 returns-3 same-length-4 returns-4
+    same-length-5 returns-5)

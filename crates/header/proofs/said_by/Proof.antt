@@ -22,7 +22,9 @@ cast-t8 : tie.Need-cast-t8
 cast-t8 c = search needs
 
 returns : tie.Need-returns
-returns c = said-read _ _ _ _ _ _ _ (c .before .before .before .before .get64 .ensures) (c .before .before .before .get642 .ensures) (c .before .before .get643 .ensures) (c .before .get644 .ensures) (c .get32 .ensures)
+returns c =
+    said-read _ _ _ _ _ _ _ (c .before .before .before .before .get64 .ensures) (c .before .before .before .get642 .ensures)
+    (c .before .before .get643 .ensures) (c .before .get644 .ensures) (c .get32 .ensures)
 
 pub said-by-spec : {M : Type 1} → statement M
 said-by-spec =

@@ -56,7 +56,9 @@ returns-2 : tie.Need-returns-2
 returns-2 c = handed-cdb _ _ _ _ (sym (c .before .before .before .place-that-admits .ensures) ∙ c .before .enum-told2 .given .1) refl refl
 
 returns-3 : tie.Need-returns-3
-returns-3 c = handed-out _ _ _ _ _ (sym (c .before .before .before .before .place-that-admits .ensures) ∙ c .before .before .place .given .1) (rw add-sub-cancel-left) refl
+returns-3 c =
+    handed-out _ _ _ _ _ (sym (c .before .before .before .before .place-that-admits .ensures) ∙ c .before .before .place .given .1)
+    (rw add-sub-cancel-left) refl
 
 pub capability-that-admits-spec : {M : Type 1} → statement M
 capability-that-admits-spec =

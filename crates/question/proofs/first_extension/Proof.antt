@@ -4,8 +4,8 @@ use mathlib.Core.Path.{refl}
 use mathlib.Core.Bool.{true, false}
 use mathlib.Core.Logic.{⊎-elim}
 use native.Mathlib.Omega.{arith}
-use Rattle.sought.specs.Sought.{admitsIn}
-use Rattle.sought.proofs.Pieces.{piece-length}
+use Rattle.capability.specs.Sought.{admitsIn}
+use Rattle.capability.proofs.Pieces.{piece-length}
 use Rattle.question.specs.Places.{firstFrom}
 use Rattle.question.proofs.Search.{First, first-begun, first-hit, first-on, first-none, both-pass, range-outside, no-match}
 use Rattle.question.proofs.first_extension.Statement.{statement}
@@ -45,13 +45,17 @@ part-is-match-end : tie.Need-part-is-match-end Inv-loop μ-loop
 part-is-match-end c = search needs
 
 is-match-requires : tie.Need-is-match-requires Inv-loop μ-loop
-is-match-requires c κs = let i = c .before .before .before .before .before .loop .inv .inside in piece-length _ (c .before .before .before .before .before .loop .from) (omega arith)
+is-match-requires c κs =
+    let i = c .before .before .before .before .before .loop .inv .inside in
+    piece-length _ (c .before .before .before .before .before .loop .from) (omega arith)
 
 returns : tie.Need-returns Inv-loop μ-loop
 unfolding firstFrom
 returns c =
-    first-hit _ _ _ _ _ _ (c .before .before .before .before .before .before .before .loop .inv) (c .before .before .before .before .before .before .loop-test .taken) true
-    (both-pass _ _ _ _ _ (c .before .before .before .before .is-inside .ensures) (c .before .before .before .if1 .taken) (c .before .is-match .ensures) (c .if2 .taken)) refl
+    first-hit _ _ _ _ _ _ (c .before .before .before .before .before .before .before .loop .inv)
+    (c .before .before .before .before .before .before .loop-test .taken) true
+    (both-pass _ _ _ _ _ (c .before .before .before .before .is-inside .ensures) (c .before .before .before .if1 .taken)
+    (c .before .is-match .ensures) (c .if2 .taken)) refl
 
 sub-untried : tie.Need-sub-untried Inv-loop μ-loop
 sub-untried c = search needs

@@ -1,4 +1,4 @@
-use Rattle.sought.proofs.Meaning.{part-ends, part-reads}
+use Rattle.capability.proofs.Meaning.{part-ends, part-reads}
 use Rattle.question.proofs.Meaning.{part-question, refuses-question}
 use mathlib.Core.Path.{sym, _∙_}
 use Rattle.header.proofs.Rows.{unreadable}
@@ -31,7 +31,9 @@ returns : tie.Need-returns
 returns c = refuses-question _ _ _ (unreadable _ _ (sym (c .before .before .read-command .ensures) ∙ c .enum-told .given .1))
 
 returns-2 : tie.Need-returns-2
-returns-2 c = part-question _ _ (sym (c .before .before .before .before .before .read-command .ensures) ∙ c .before .before .before .reading .given .1) _ _ (c .first-place .ensures)
+returns-2 c =
+    part-question _ _ (sym (c .before .before .before .before .before .read-command .ensures)
+    ∙ c .before .before .before .reading .given .1) _ _ (c .first-place .ensures)
 
 pub place-that-admits-spec : {M : Type 1} → statement M
 place-that-admits-spec =

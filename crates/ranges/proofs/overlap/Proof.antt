@@ -30,7 +30,8 @@ returns c =
     let r = c .before .before in
     let t = r .before in
     let s = t .before .before .before .before in
-    left-hit asks-all _ _ _ _ _ (t .before .loop .inv) (t .loop-test .taken) (s .pre .0) (s .pre .1) (r .range-at .ensures) (c .before .shares-later .ensures) (c .if1 .taken)
+    left-hit asks-all _ _ _ _ _ (t .before .loop .inv) (t .loop-test .taken) (s .pre .0) (s .pre .1) (r .range-at .ensures)
+    (c .before .shares-later .ensures) (c .if1 .taken)
 
 add-i : tie.Need-add-i Inv-loop μ-loop
 add-i c = omega arith
@@ -43,7 +44,8 @@ loop-again c =
     let r = c .before .before in
     let t = r .before in
     let s = t .before .before .before .before in
-    left-on asks-all _ _ _ _ _ (t .before .loop .inv) (t .loop-test .taken) (s .pre .0) (s .pre .1) (r .range-at .ensures) (c .before .shares-later .ensures) (c .if1 .left)
+    left-on asks-all _ _ _ _ _ (t .before .loop .inv) (t .loop-test .taken) (s .pre .0) (s .pre .1) (r .range-at .ensures)
+    (c .before .shares-later .ensures) (c .if1 .left)
 
 returns-2 : tie.Need-returns-2 Inv-loop μ-loop
 returns-2 c = left-none asks-all _ _ _ _ _ (c .before .loop .inv) (c .loop-test .left)

@@ -28,7 +28,8 @@ returns c =
     let r = c .before .before in
     let t = r .before in
     let s = t .before .before .before .before in
-    left-hit (asks-any _) _ _ _ _ _ (t .before .loop .inv) (t .loop-test .taken) (s .pre .1) (s .pre .2) (r .range-at .ensures) (c .before .share .ensures) (c .if1 .taken)
+    left-hit (asks-any _) _ _ _ _ _ (t .before .loop .inv) (t .loop-test .taken) (s .pre .1) (s .pre .2) (r .range-at .ensures)
+    (c .before .share .ensures) (c .if1 .taken)
 
 add-i : tie.Need-add-i Inv-loop μ-loop
 add-i c = omega arith
@@ -41,7 +42,8 @@ loop-again c =
     let r = c .before .before in
     let t = r .before in
     let s = t .before .before .before .before in
-    left-on (asks-any _) _ _ _ _ _ (t .before .loop .inv) (t .loop-test .taken) (s .pre .1) (s .pre .2) (r .range-at .ensures) (c .before .share .ensures) (c .if1 .left)
+    left-on (asks-any _) _ _ _ _ _ (t .before .loop .inv) (t .loop-test .taken) (s .pre .1) (s .pre .2) (r .range-at .ensures)
+    (c .before .share .ensures) (c .if1 .left)
 
 returns-2 : tie.Need-returns-2 Inv-loop μ-loop
 returns-2 c = left-none (asks-any _) _ _ _ _ _ (c .before .loop .inv) (c .loop-test .left)

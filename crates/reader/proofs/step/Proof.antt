@@ -34,7 +34,9 @@ module _ {M : Type 1} (𝓤 : URA M) (H : Heap 𝓤) (A : Atoms 𝓤) (mem : Mem
 
   step-meets : Given 𝓤 H A → (𝓣 : Tables 𝓤 H) → Triple 𝓤 (𝓣 .C #reader·met-at) MetAt
       → Meets 𝓤 H A step.signature (WpFn 𝓤 H (𝓣 .C) (𝓣 .Λ) code.function) (step.spec 𝓤 H A mem run)
-  step-meets W 𝓣 known = meets R.the-row met R′.mir 𝓤 H A W (step.clauses 𝓤 H A mem run) (λ κs a g r e is. factI 𝓤 _ (emp 𝓤) is) (λ r u is. EL.lawful R.the-type R′.the-laws 𝓤 H A W tt .typed r (u ∷ []) is .0) 𝓣 #reader·met-at known
+  step-meets W 𝓣 known =
+      meets R.the-row met R′.mir 𝓤 H A W (step.clauses 𝓤 H A mem run) (λ κs a g r e is. factI 𝓤 _ (emp 𝓤) is)
+      (λ r u is. EL.lawful R.the-type R′.the-laws 𝓤 H A W tt .typed r (u ∷ []) is .0) 𝓣 #reader·met-at known
 
 pub step-spec : {M : Type 1} → stated.statement M
 unfolding code.routine tablesOf

@@ -32,7 +32,9 @@ returns c = list-sound _ _ _ _ (c .before .before .before .get32 .ensures) (c .b
 
 returns-2 : tie.Need-returns-2
 unfolding sizeAt
-returns-2 c = list-faulty _ _ _ _ (c .before .before .before .before .get32 .ensures) (c .before .before .before .judge .ensures) _ (c .before .verdict .given .1)
+returns-2 c =
+    list-faulty _ _ _ _ (c .before .before .before .before .get32 .ensures) (c .before .before .before .judge .ensures) _
+    (c .before .verdict .given .1)
 
 pub entries-at-spec : {M : Type 1} → statement M
 entries-at-spec =

@@ -31,11 +31,16 @@ enum-known-verdict c = search needs
 
 returns : tie.Need-returns
 unfolding sizeAt
-returns c = extension-sound _ _ _ _ (c .before .before .before .before .get32 .ensures) _ (c .before .before .before .holds-capabilities .ensures) (c .before .before .judge .ensures) (c .enum-told .given .1)
+returns c =
+    extension-sound _ _ _ _ (c .before .before .before .before .get32 .ensures) _ (c .before .before .before .holds-capabilities .ensures)
+    (c .before .before .judge .ensures) (c .enum-told .given .1)
 
 returns-2 : tie.Need-returns-2
 unfolding sizeAt
-returns-2 c = extension-faulty _ _ _ _ (c .before .before .before .before .before .get32 .ensures) _ (c .before .before .before .before .holds-capabilities .ensures) (c .before .before .before .judge .ensures) _ (c .before .verdict .given .1)
+returns-2 c =
+    extension-faulty _ _ _ _ (c .before .before .before .before .before .get32 .ensures) _
+    (c .before .before .before .before .holds-capabilities .ensures) (c .before .before .before .judge .ensures) _
+    (c .before .verdict .given .1)
 
 pub extensions-at-spec : {M : Type 1} → statement M
 extensions-at-spec =

@@ -45,13 +45,15 @@ returns-4 : tie.Need-returns-4
 unfolding padAt
 returns-4 c =
     let a = c .before .before .before .before .before in
-    past _ _ _ _ _ (a .pre .1) refl _ (not-false _ (c .before .if3 .left)) (c .before .before .before .before .if1 .left) (c .before .before .if2 .left) (omega arith) (c .if4 .taken)
+    past _ _ _ _ _ (a .pre .1) refl _ (not-false _ (c .before .if3 .left)) (c .before .before .before .before .if1 .left)
+    (c .before .before .if2 .left) (omega arith) (c .if4 .taken)
 
 returns-5 : tie.Need-returns-5
 unfolding padAt
 returns-5 c =
     let a = c .before .before .before .before .before in
-    sound _ _ _ _ _ (a .pre .1) refl _ (not-false _ (c .before .if3 .left)) (c .before .before .before .before .if1 .left) (c .before .before .if2 .left) (omega arith) (c .if4 .left)
+    sound _ _ _ _ _ (a .pre .1) refl _ (not-false _ (c .before .if3 .left)) (c .before .before .before .before .if1 .left)
+    (c .before .before .if2 .left) (omega arith) (c .if4 .left)
 
 pub judge-spec : {M : Type 1} → statement M
 judge-spec =

@@ -58,8 +58,10 @@ add-result-3 c = search needs
 returns : tie.Need-returns
 returns c =
     let s = c .before .before .before .before .before .before .before .before .before in (
-      four-bytes _ _ _ _ (s .args .at) (s .args .s .now) (s .pre) (c .before .before .before .before .before .before .wide .ensures .0) (c .before .before .before .before .wide2 .ensures .0) (c .before .before .wide3 .ensures .0) (c .wide4 .ensures .0),
-      four-small _ _ _ _ (c .before .before .before .before .before .before .wide .ensures .1) (c .before .before .before .before .wide2 .ensures .1) (c .before .before .wide3 .ensures .1) (c .wide4 .ensures .1),
+      four-bytes _ _ _ _ (s .args .at) (s .args .s .now) (s .pre) (c .before .before .before .before .before .before .wide .ensures .0)
+          (c .before .before .before .before .wide2 .ensures .0) (c .before .before .wide3 .ensures .0) (c .wide4 .ensures .0),
+      four-small _ _ _ _ (c .before .before .before .before .before .before .wide .ensures .1)
+          (c .before .before .before .before .wide2 .ensures .1) (c .before .before .wide3 .ensures .1) (c .wide4 .ensures .1),
     )
 
 pub four-spec : {M : Type 1} → statement M

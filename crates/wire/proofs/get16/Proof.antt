@@ -35,4 +35,6 @@ returns c = let s = c .before .before .before .before .before in
     (one-byte _ _ _ (omega (arith, s .pre)) (c .wide2 .ensures .0))
 
 pub get16-spec : {M : Type 1} → statement M
-get16-spec = tie.close (tie.spec shared-slice-read-wide wide-requires add-wide shared-slice-read-wide-2 wide-requires-2 mul-result add-result cast-result returns)
+get16-spec =
+    tie.close (tie.spec shared-slice-read-wide wide-requires add-wide shared-slice-read-wide-2 wide-requires-2 mul-result add-result
+    cast-result returns)

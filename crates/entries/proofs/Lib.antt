@@ -1,3 +1,0 @@
-pub mod Loading
-pub mod Entrywise
-pub mod Faults
