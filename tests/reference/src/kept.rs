@@ -145,10 +145,14 @@ fn write_line(writing: &Writing, due: &Written) -> String {
 }
 
 fn parse_write(words: &[&str]) -> Result<(Request, Reply), String> {
-    let [action, partition, object, start, length, flag, offsets, lengths, capabilities, cdb, segment, "->", number, segment_length, cdb_after, segment_after] =
-        words[..]
+    let other = "not the words of a request to the writer";
+    let [action, partition, object, start, length, flag, offsets, lengths, rest @ ..] = words
     else {
-        return Err("not the words of a request to the writer".to_string());
+        return Err(other.to_string());
+    };
+    let [capabilities, cdb, segment, "->", number, segment_length, cdb_after, segment_after] = rest
+    else {
+        return Err(other.to_string());
     };
     let flag = decimal(flag)?;
     let writing = Writing {
