@@ -22,8 +22,8 @@
  *
  * THE OBJECT
  *
- * The object's bytes are the first `length` bytes of `slice`; `length` is its logical length. The record
- * beside them is passed as numbers: partition and object (its two identifiers), length, maximum (a limit
+ * The object's bytes are the first `logical` bytes of `slice`: `logical` is its logical length. The record
+ * beside them is passed as numbers: partition and object (its two identifiers), logical, maximum (a limit
  * on the length; zero is a limit of zero), tag (policy access tag) and epoch (boot epoch). Only the
  * logical length ever changes: keep what comes back through `next_length` and pass it the next time.
  *
@@ -116,7 +116,7 @@ extern "C" {
  * On a refusal `slice` and `input` are as they were, the count is 0, and the length is the one given.
  */
 uint32_t holmweder_execute(const uint8_t *cdb, size_t cdb_len, const uint8_t *out, size_t out_len,
-                           uint64_t partition, uint64_t object, uint64_t length, uint64_t maximum,
+                           uint64_t partition, uint64_t object, uint64_t logical, uint64_t maximum,
                            uint32_t tag, uint16_t epoch, uint8_t *slice, size_t slice_len,
                            uint8_t *input, size_t input_len, uint64_t *count, uint64_t *next_length);
 
@@ -131,7 +131,7 @@ uint32_t holmweder_execute(const uint8_t *cdb, size_t cdb_len, const uint8_t *ou
  * The first that admits the range is told, the CDB's before the segment's.
  */
 uint32_t holmweder_admission(const uint8_t *cdb, size_t cdb_len, const uint8_t *out, size_t out_len,
-                             uint64_t partition, uint64_t object, uint64_t length, uint64_t maximum,
+                             uint64_t partition, uint64_t object, uint64_t logical, uint64_t maximum,
                              uint32_t tag, uint16_t epoch, uint64_t start, uint64_t size, uint64_t *offset);
 
 /* The sense key and the sense code of a number, as in the table; 0 for a number that isn't there. */
