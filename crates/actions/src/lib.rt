@@ -1,5 +1,8 @@
 // The actions: what each verb does when it is carried out, and what it tells. What could hinder one stands in its `requires`, so
 // none can fail.
+
+#![tactic(auto)]
+
 ghost use Rattle.std.specs.Prelude.{◌≡◌, cond, [], ◌∷◌, ◌++◌, ◌-◌, ltb, length, take, drop};
 ghost use Rattle.rules.specs.Bytes.{zeros};
 ghost use Rattle.rules.specs.Object.{gathered, scattered, grown, punched};

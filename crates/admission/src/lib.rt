@@ -1,4 +1,7 @@
 // Row 11: whether a command is let in, all of its ranges. What its capabilities allow is noted once and asked for each range.
+
+#![tactic(auto)]
+
 ghost use Rattle.std.specs.Prelude.{◌≡◌, [], ◌∷◌, ◌+◌, ◌<◌, ◌≤◌, ◌/◌, length, take};
 ghost use Rattle.rules.specs.Bytes.{all};
 ghost use Rattle.rules.specs.Segment.{entries_from};

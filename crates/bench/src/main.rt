@@ -1,5 +1,8 @@
 // One call from a file on standard input: the answer is printed as one line, or `bad file`.
 // `reply_to` makes of the file what is to be printed. No contract can speak of input and output, so only the last functions have any.
+
+#![tactic(auto)]
+
 ghost use Rattle.std.specs.Prelude.{◌≡◌, ◌≤◌, length};
 ghost use Rattle.rules.specs.Bytes.{zeros};
 ghost use Rattle.rules.specs.Answer.{answered};
@@ -11,7 +14,7 @@ use callfile::{Layout, Line, Sections};
 use libc::{STDIN_FILENO, STDOUT_FILENO};
 use rules::{Answer, Part, Record};
 
-#[derive(Drop)]
+#[derive(Clone, Copy)]
 enum Reply {
     BadFile,
     Told(Line),

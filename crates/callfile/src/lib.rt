@@ -1,5 +1,8 @@
 // A call as a file has it: four sections, each after its four-byte count; where each one stands, and the record out of its bytes.
 // And its answer as a line tells it: number with key and code, count, and the logical length afterwards.
+
+#![tactic(auto)]
+
 ghost use Rattle.std.specs.Prelude.{◌≡◌, ◌≤◌, ◌<◌, length};
 ghost use Rattle.callfile.specs.File.{section_at, layout_of, record_of};
 ghost use Rattle.callfile.specs.Told.{line_of, hex_digit, code_text};
@@ -7,13 +10,13 @@ ghost use Rattle.callfile.specs.Told.{line_of, hex_digit, code_text};
 use rules::{Answer, Part, Record};
 
 // Where a section's bytes stand, behind its count.
-#[derive(Drop)]
+#[derive(Clone, Copy)]
 enum Section {
     Bad,
     At(Part),
 }
 
-#[derive(Drop)]
+#[derive(Clone, Copy)]
 pub struct Sections {
     pub cdb: Part,
     pub out: Part,
@@ -21,7 +24,7 @@ pub struct Sections {
     pub slice: Part,
 }
 
-#[derive(Drop)]
+#[derive(Clone, Copy)]
 pub enum Layout {
     Bad,
     Sound(Sections),
@@ -93,7 +96,7 @@ pub fn record_of(s: &[u8]) -> Record
 }
 
 // What is printed of an answer.
-#[derive(Drop)]
+#[derive(Clone, Copy)]
 pub struct Line {
     pub number: u32,
     pub key: u32,

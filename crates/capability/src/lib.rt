@@ -1,4 +1,7 @@
 // One capability, 104 bytes: whether it matches a command, what range it allows, and whether a range lies inside that.
+
+#![tactic(auto)]
+
 ghost use Rattle.std.specs.Prelude.{◌≡◌, ◌≤◌, ◌+◌, ◌^◌, leb, length};
 ghost use Rattle.rules.specs.Capability.{permits, for_user_object, names, tagged, current, inside};
 ghost use Rattle.capability.specs.Terms.{holder, meets};
@@ -9,7 +12,7 @@ use header::Parsed;
 use rules::{Range, Record, Verb};
 
 // What a capability is held against: the verb and the IDs of a command, the tag and the epoch of a record.
-#[derive(Drop)]
+#[derive(Clone, Copy)]
 pub struct Sought {
     pub verb: Verb,
     pub partition: u64,

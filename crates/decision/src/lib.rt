@@ -1,5 +1,8 @@
 // The decision: which row of the table refuses a call, or what is to be carried out. It has no side effect: it sees the
 // lengths of what is lent, and none of the bytes of the object or of Data-In.
+
+#![tactic(auto)]
+
 ghost use Rattle.std.specs.Prelude.{◌≡◌, ◌≤◌, ◌&&◌, not, eqb};
 ghost use Rattle.rules.specs.Ranges.{reach};
 ghost use Rattle.rules.specs.Command.{is_write};
@@ -16,7 +19,7 @@ use ranges::Reach;
 use rules::{Range, Record, Refusal, Spot, Verb};
 
 // What is to be done with a call. WRITE and CLEAR come with the logical length that they leave.
-#[derive(Drop)]
+#[derive(Clone, Copy)]
 pub enum Decision {
     Refuse(Refusal),
     Read(Parsed),

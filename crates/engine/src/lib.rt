@@ -1,5 +1,8 @@
 // The engine: decide, then carry out. The decision writes nothing and the action can't fail, so a command is carried out
 // whole, or refused with nothing altered.
+
+#![tactic(auto)]
+
 ghost use Rattle.engine.specs.Promise.{Executes};
 
 use decision::Decision;

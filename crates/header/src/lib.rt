@@ -1,6 +1,9 @@
 // Rows 2 to 8 of the table of numbers: whether a command can be read, and what it then says. They are three questions, of the CDB
 // alone, of the object that it names and of its segment, and one that asks them in order, which the engine and the admission
 // question share: so nobody tests these rows twice in different words.
+
+#![tactic(auto)]
+
 ghost use Rattle.std.specs.Prelude.{◌≡◌, ◌≤◌, ◌&&◌, ◌||◌, not, eqb, ltb, length};
 ghost use Rattle.rules.specs.Bytes.{byte, field};
 ghost use Rattle.rules.specs.Command.{verb_of, is_clear, is_punch};
@@ -14,7 +17,7 @@ ghost use Rattle.header.specs.Reading.{named, command, said_by, front_of, other_
 use rules::{Found, Record, Refusal, Spot, Verb, Walk};
 
 // What a command says that can be read. Of the CDB alone, nothing is found yet.
-#[derive(Drop)]
+#[derive(Clone, Copy)]
 pub struct Parsed {
     pub verb: Verb,
     pub partition: u64,
@@ -26,13 +29,13 @@ pub struct Parsed {
 }
 
 // The first row that refuses a command, of those that were asked, or what it says.
-#[derive(Drop)]
+#[derive(Clone, Copy)]
 pub enum Reading {
     Unreadable(Refusal),
     Readable(Parsed),
 }
 
-#[derive(Drop)]
+#[derive(Clone, Copy)]
 enum Named {
     Known(Verb),
     Unknown,

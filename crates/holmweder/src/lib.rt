@@ -1,5 +1,8 @@
 // The C face: the entry points of include/holmweder.h, on numbers and byte slices. None of them asks anything of its caller
 // that the header doesn't say of memory.
+
+#![tactic(auto)]
+
 ghost use Rattle.std.specs.Prelude.{◌≡◌, not, eqb};
 ghost use Rattle.rules.specs.Numbers.{sense, status};
 ghost use Rattle.rules.specs.Admission.{question};

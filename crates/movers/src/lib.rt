@@ -1,5 +1,8 @@
 // The movers of bytes within slices: copy, wipe, move down, each with what every byte is afterwards. No byte is read but those that move, and
 // none is written but where one goes.
+
+#![tactic(auto)]
+
 ghost use Rattle.std.specs.Prelude.{◌≡◌, ◌+◌, ◌<◌, ◌≤◌, min, length};
 ghost use Rattle.rules.specs.Bytes.{part, zeros, laid};
 

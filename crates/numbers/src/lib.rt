@@ -1,4 +1,7 @@
 // Document 01's numbers: which one an outcome has, and each one's sense and status.
+
+#![tactic(auto)]
+
 ghost use Rattle.std.specs.Prelude.{◌≡◌};
 ghost use Rattle.rules.specs.Numbers.{row, number, sense, status};
 

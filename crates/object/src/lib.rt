@@ -1,5 +1,8 @@
 // The object, the first bytes of its slice: a command's ranges, with a list or without, gathered from it or filled from Data-Out;
 // one range cleared, or cut out. Where a length rises, the gap becomes zero.
+
+#![tactic(auto)]
+
 ghost use Rattle.std.specs.Prelude.{◌≡◌, false, [], ◌∷◌, ◌++◌, ◌+◌, ◌≤◌, max, ◌-◌, min, ◌*◌, ◌/◌, ltb, length, drop, take};
 ghost use Rattle.rules.specs.Bytes.{zeros, part, laid, any};
 ghost use Rattle.rules.specs.Ranges.{reach, total};

@@ -1,4 +1,7 @@
 // The admission question: for any range the first capability that admits it, handed back where it stands.
+
+#![tactic(auto)]
+
 ghost use Rattle.std.specs.Prelude.{◌≡◌};
 ghost use Rattle.rules.specs.Admission.{question};
 ghost use Rattle.header.specs.Reading.{command};
@@ -11,7 +14,7 @@ use header::{Parsed, Reading};
 use rules::{Part, Range, Record, Spot};
 
 // Where a capability stands.
-#[derive(Drop)]
+#[derive(Clone, Copy)]
 pub enum Place {
     Nowhere,
     InCdb,

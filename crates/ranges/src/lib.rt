@@ -1,6 +1,9 @@
 // Ranges, as a host gives them, two slices of offsets and lengths, or as a list has them, entries where they stand in the segment:
 // their sum, whether two share a position, whether one starts beyond a length, and how far they reach. Nothing here knows of a
 // command: a caller says where the list lies. No sum wraps: 64 lengths can pass 2^64, and so can the end of a single range.
+
+#![tactic(auto)]
+
 ghost use Rattle.std.specs.Prelude.{◌≡◌, List, ℕ, ◌≤◌, ◌<◌, ◌+◌, ◌*◌, ◌/◌, length, take, drop, get_or};
 ghost use Rattle.rules.specs.Bytes.{any};
 ghost use Rattle.rules.specs.Ranges.{total, meet, overlapping, reach};
@@ -16,7 +19,7 @@ use rules::{Part, Range};
 // The largest number of 64 bits.
 const MOST: u64 = 0xFFFF_FFFF_FFFF_FFFF;
 
-#[derive(Drop)]
+#[derive(Clone, Copy)]
 pub enum Sum {
     Fits(u64),
     Over,
@@ -192,7 +195,7 @@ pub fn starts_beyond_in(s: &[u8], part: Part, logical: u64) -> bool
 // ---- how far ranges reach
 
 // A length that is reached, if it lies within a limit.
-#[derive(Drop)]
+#[derive(Clone, Copy)]
 pub enum Reach {
     Within(usize),
     Beyond,

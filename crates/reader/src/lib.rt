@@ -1,6 +1,9 @@
 // A reader that holds a lent segment together with a position in it, and thin functions over it. Each function over the
 // struct is proved by hand, so none has a branch, a match or a loop: those are in the functions over a plain slice and a
 // position, which take their steps from `walk`.
+
+#![tactic(auto)]
+
 ghost use Rattle.std.specs.Prelude.{◌≡◌};
 ghost use Rattle.reader.specs.Position.{start, met, after, left};
 
@@ -8,13 +11,13 @@ use rules::{Found, Here, Spot, Walk};
 use segment::Step;
 
 // Where a walk stands: at which byte, with what it has found by then.
-#[derive(Drop)]
+#[derive(Clone, Copy)]
 pub struct Position {
     pub at: usize,
     pub found: Found,
 }
 
-#[derive(Drop)]
+#[derive(Clone, Copy)]
 pub struct Reader<'a> {
     pub segment: &'a [u8],
     pub position: Position,

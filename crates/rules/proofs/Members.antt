@@ -11,6 +11,7 @@ module _ {ℓ} {X : Type ℓ} (f : X → Bool) where
   -- a member that passes
   pub any_of : {x : X} (xs : List X) → Memᴰ x xs → f x ≡ true → any f xs ≡ true
   unfolding any
+  any_of [] x3 h = elim x3 [ ]
   any_of (y ∷ xs) (Memᴰ.head e) h = rw (← e, h)
   any_of (y ∷ xs) (Memᴰ.tail m) h = rw (any_of xs m h) (or-true (f y))
 
@@ -28,6 +29,7 @@ module _ {ℓ} {X : Type ℓ} (f : X → Bool) where
 
   pub all_of : {x : X} (xs : List X) → Memᴰ x xs → all f xs ≡ true → f x ≡ true
   unfolding all
+  all_of [] x3 h = elim x3 [ ]
   all_of (y ∷ xs) (Memᴰ.head e) h = rw e (and_true_parts (f y) _ h).0
   all_of (y ∷ xs) (Memᴰ.tail m) h = all_of xs m (and_true_parts (f y) _ h).1
 

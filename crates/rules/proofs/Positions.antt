@@ -78,6 +78,7 @@ inside_later n g gs inside p h = inside p (covered_later g gs p h)
 
 -- a range of the list covers its positions
 pub member_covers : (g : Range) (gs : List Range) (p : ℕ) → Memᴰ g gs → Of g p → covered gs p ≡ true
+member_covers g [] p x'' o = elim x'' [ ]
 member_covers g (h ∷ gs) p (Memᴰ.head e) o = covered_here h gs p (rw e at o)
 member_covers g (h ∷ gs) p (Memᴰ.tail m) o = covered_later h gs p (member_covers g gs p m o)
 

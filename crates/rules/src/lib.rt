@@ -1,9 +1,12 @@
 // The types that every crate shares. specs/ has the rules, stated over these types.
+
+#![tactic(auto)]
+
 ghost use Rattle.std.specs.Prelude.{◌≡◌, ◌-◌, ◌≤◌};
 ghost use Rattle.rules.specs.Answer.{lengthened};
 
 // An object's record. Only `length`, the logical length, ever changes.
-#[derive(Drop)]
+#[derive(Clone, Copy)]
 pub struct Record {
     pub partition: u64,
     pub object: u64,
@@ -33,14 +36,14 @@ impl Record {
 }
 
 // Positions of the object: `size` of them from `start` on.
-#[derive(Drop)]
+#[derive(Clone, Copy)]
 pub struct Range {
     pub start: u64,
     pub size: u64,
 }
 
 // The four commands, and their service actions.
-#[derive(Drop)]
+#[derive(Clone, Copy)]
 pub enum Verb {
     Read,
     Write,
@@ -57,7 +60,7 @@ pub const CLEAR: u64 = 0x8889;
 pub const PUNCH: u64 = 0x8884;
 
 // Rows 1 to 14 of the table of numbers, in its order.
-#[derive(Drop)]
+#[derive(Clone, Copy)]
 pub enum Refusal {
     ObjectUnfit,
     CdbMalformed,
@@ -76,7 +79,7 @@ pub enum Refusal {
 }
 
 // How a command ended. `Ended` is a READ that met the logical length before it had all its bytes.
-#[derive(Drop)]
+#[derive(Clone, Copy)]
 pub enum Outcome {
     Done,
     Ended,
@@ -84,7 +87,7 @@ pub enum Outcome {
 }
 
 // What the caller is told beside its bytes.
-#[derive(Drop)]
+#[derive(Clone, Copy)]
 pub struct Answer {
     pub outcome: Outcome,
     pub count: u64,
@@ -92,7 +95,7 @@ pub struct Answer {
 }
 
 // Why a descriptor, or what remains behind the last one, is refused, in the order tested.
-#[derive(Drop)]
+#[derive(Clone, Copy)]
 pub enum Cause {
     Unknown,
     Over,
@@ -104,14 +107,14 @@ pub enum Cause {
 }
 
 // A stretch of the segment: where a descriptor's data stands, and how long it is.
-#[derive(Drop)]
+#[derive(Clone, Copy)]
 pub struct Part {
     pub at: usize,
     pub size: usize,
 }
 
 // What stands at a position of the segment.
-#[derive(Drop)]
+#[derive(Clone, Copy)]
 pub enum Here {
     End,
     Entries(Part),
@@ -119,21 +122,21 @@ pub enum Here {
     Fault(Cause),
 }
 
-#[derive(Drop)]
+#[derive(Clone, Copy)]
 pub enum Spot {
     Absent,
     At(Part),
 }
 
 // What a walk has met: the list's data and the extension's.
-#[derive(Drop)]
+#[derive(Clone, Copy)]
 pub struct Found {
     pub list: Spot,
     pub extension: Spot,
 }
 
 // What a walk comes to: all that the segment has, or the first fault and where its header stands.
-#[derive(Drop)]
+#[derive(Clone, Copy)]
 pub enum Walk {
     Whole(Found),
     Broken(Cause, usize),

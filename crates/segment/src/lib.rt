@@ -1,5 +1,8 @@
 // A segment: what stands at a position, a descriptor, the end or a fault; the walk over its descriptors, which comes to all that
 // the segment has or to its first fault and where that stands; and a list entry. Nothing of the segment is copied.
+
+#![tactic(auto)]
+
 ghost use Rattle.std.specs.Prelude.{◌≡◌, ◌&&◌, not, ◌+◌, ◌≤◌, ◌%◌, eqb, length, drop};
 ghost use Rattle.rules.specs.Bytes.{blank};
 ghost use Rattle.rules.specs.Tests.{first_of};
@@ -10,7 +13,7 @@ ghost use Rattle.segment.specs.Step.{stepped};
 use rules::{Cause, Found, Here, Part, Range, Spot, Walk};
 
 // Whether a descriptor of a known type is sound, or what it is refused for.
-#[derive(Drop)]
+#[derive(Clone, Copy)]
 enum Verdict {
     Sound,
     Faulty(Cause),
@@ -134,7 +137,7 @@ pub fn entry_at(s: &[u8], at: usize) -> Range
 // ---- the walk
 
 // Where a walk goes from a position: it ends, or goes on at the next one with what is found by then.
-#[derive(Drop)]
+#[derive(Clone, Copy)]
 pub enum Step {
     Stop(Walk),
     On(usize, Found),

@@ -1,5 +1,8 @@
 // Big-endian numbers in byte slices, read and written. A number is read without a loop, each byte with its own weight: of such a
 // sum the compiler makes one load. It is written by one loop for any width.
+
+#![tactic(auto)]
+
 ghost use Rattle.std.specs.Prelude.{◌≡◌, ◌+◌, ◌<◌, ◌≤◌, ◌^◌, length};
 ghost use Rattle.rules.specs.Bytes.{field, laid, to_be};
 

@@ -1,6 +1,9 @@
 // The host's command writer: a request becomes a CDB and, where it has a list or more capabilities than one, a segment.
 // Every refusal comes before the first byte is written. CDB and segment are written front to back, every byte, those without a
 // name as zero; small neighbours are written as one number, so that there are few stores.
+
+#![tactic(auto)]
+
 ghost use Rattle.std.specs.Prelude.{◌≡◌, true, ◌||◌, not, ◌++◌, ◌+◌, ◌≤◌, ◌*◌, ℕ, ◌%◌, eqb, ltb, length};
 ghost use Rattle.rules.specs.Bytes.{to_be, laid, Bytes};
 ghost use Rattle.rules.specs.Writer.{paired, spelled, written};
@@ -14,14 +17,14 @@ ghost use Rattle.writer.specs.Post.{Wrote};
 use ranges::Sum;
 
 // The number, and the segment's length.
-#[derive(Drop)]
+#[derive(Clone, Copy)]
 pub struct Written {
     pub number: u32,
     pub size: usize,
 }
 
 // What is known of a request before the buffers are looked at: what LENGTH is, or that it is refused.
-#[derive(Drop)]
+#[derive(Clone, Copy)]
 enum Plan {
     Length(u64),
     Refused,
