@@ -1,11 +1,11 @@
 -- Row 10 of a list: what the sum of its lengths, as 64 bits answer it, says of a fault.
 use Prim.Native.Nat.{ℕ, ◌^◌, ◌≤◌, ◌<◌}
 use mathlib.Core.Path.{◌≡◌, refl, sym, ◌∙◌}
-use mathlib.Core.Bool.{Bool, true, false, cond, not}
+use mathlib.Core.Bool.{Bool, true, false, cond}
 use mathlib.Core.List.{List}
 use native.Mathlib.Omega.{arith}
 use lib.Dec.{ltb}
-use borrow.Author.Tests.{eq-eqb, ne_eqb, ltb-false, not-true, not-false}
+use borrow.Author.Tests.{eq-eqb, ne_eqb, ltb-false}
 use Rattle.rules.specs.declared.Range.{Range}
 use Rattle.rules.specs.Ranges.{total, overlapping}
 use Rattle.ranges.specs.declared.Sum.{Sum}
@@ -45,10 +45,10 @@ module _ (gs : List Range) (size : ℕ) (apart : Bool) (r : Sum) (e : r ≡ summ
     unfolding fault_in
     sums_else n = rw (ne_eqb _ _ (λ (z : total gs ≡ size). n (sym is_sum ∙ z)))
 
-    pub sums_right : k ≡ size → not apart ≡ true → false ≡ fault_in gs size apart
+    pub sums_right : k ≡ size → apart ≡ false → false ≡ fault_in gs size apart
     unfolding fault_in
-    sums_right z a = rw (eq-eqb _ _ (is_sum ∙ z), not-true apart a)
+    sums_right z a = rw (eq-eqb _ _ (is_sum ∙ z), a)
 
-    pub sums_apart : k ≡ size → not apart ≡ false → (t : Bool) → t ≡ overlapping gs → t ≡ fault_in gs size apart
+    pub sums_apart : k ≡ size → apart ≡ true → (t : Bool) → t ≡ overlapping gs → t ≡ fault_in gs size apart
     unfolding fault_in
-    sums_apart z a t o = rw (eq-eqb _ _ (is_sum ∙ z), not-false apart a) o
+    sums_apart z a t o = rw (eq-eqb _ _ (is_sum ∙ z), a) o
