@@ -1,10 +1,9 @@
 -- What is noted of the capabilities, and the search over the list's entries, one step at a time.
 use Prim.Native.Nat.{ℕ, ◌+◌, ◌-◌, ◌*◌, ◌≤◌, ◌<◌}
 use mathlib.Core.Path.{◌≡◌, refl, ap, sym, ◌∙◌}
-use mathlib.Core.Bool.{Bool, true, false, cond, ◌&&◌, not}
+use mathlib.Core.Bool.{Bool, true, false, cond, ◌&&◌}
 use mathlib.Core.List.{List, [], ◌∷◌, ◌++◌, append_assoc, append-nil}
 use native.Mathlib.Omega.{arith}
-use borrow.Author.Tests.{not-true, not-false}
 use lib.ListN.{length, take, drop, set, length-append}
 use Rattle.rules.specs.declared.Range.{Range}
 use Rattle.rules.specs.Bytes.{Bytes, all}
@@ -39,15 +38,15 @@ module _ (w : Sought) where
 
   -- one capability; m is whether it matches
   module _ (k : Bytes) (n : ℕ) (ss zs : List ℕ) (m : Bool) (e : m ≡ meets w k) where
-    pub noted_none : not m ≡ true → Noted w (k ∷ []) n ss zs n ss zs
+    pub noted_none : m ≡ false → Noted w (k ∷ []) n ss zs n ss zs
     unfolding noted
-    noted_none h = let x : meets w k ≡ false = sym e ∙ not-true m h in
+    noted_none h = let x : meets w k ≡ false = sym e ∙ h in
         record { count = rw x (omega arith); ranges = rw x (sym (append-nil _)) }
 
-    pub noted_one : not m ≡ false → n < length ss → n < length zs → (a : Range) → a ≡ allowance k
+    pub noted_one : m ≡ true → n < length ss → n < length zs → (a : Range) → a ≡ allowance k
         → Noted w (k ∷ []) n ss zs (n + 1) (set ss n a.start) (set zs n a.size)
     unfolding noted
-    noted_one h hs hz a ea = let x : meets w k ≡ true = sym e ∙ not-false m h in
+    noted_one h hs hz a ea = let x : meets w k ≡ true = sym e ∙ h in
         record {
           count = rw x (omega arith);
           ranges = rw x (paired_more ss zs n a.start a.size hs hz ∙ ap (λ (y : Range). paired (take n ss) (take n zs) ++ (y ∷ [])) ea);

@@ -40,7 +40,7 @@ fn note_extension(
     n: usize,
 ) -> usize
     requires extension_in { ExtensionIn segment.now part }
-    requires size_in_bounds { (n + part.size / 104 ≤ length starts.old) × (n + part.size / 104 ≤ length sizes.old) }
+    requires room { (n + part.size / 104 ≤ length starts.old) × (n + part.size / 104 ≤ length sizes.old) }
     ensures { Noted by (pieces_from segment.now (part.size / 104) part.at) n
         starts.old sizes.old result starts.new sizes.new }
 {
@@ -66,7 +66,7 @@ fn note_all(
     sizes: &mut [u64],
 ) -> usize
     requires reads { Reads cdb.now segment.now said }
-    requires in_bounds { (9 ≤ length starts.old) × (9 ≤ length sizes.old) }
+    requires room { (9 ≤ length starts.old) × (9 ≤ length sizes.old) }
     ensures { Noted (sought_by said on) (pieces_in cdb.now segment.now said) 0
         starts.old sizes.old result starts.new sizes.new }
 {
@@ -102,7 +102,7 @@ fn lies_inside(starts: &[u64], sizes: &[u64], n: usize, g: Range) -> bool
 // Whether each entry of the list does.
 fn all_inside(segment: &[u8], part: Part, starts: &[u64], sizes: &[u64], n: usize) -> bool
     requires list_in { ListIn segment.now part }
-    requires n_in_bounds { (n ≤ length starts.now) × (n ≤ length sizes.now) }
+    requires noted { (n ≤ length starts.now) × (n ≤ length sizes.now) }
     ensures { result ≡ all (inside_one (paired (take n starts.now) (take n sizes.now)))
         (entries_from (part.size / 16) segment.now part.at) }
 {

@@ -150,12 +150,12 @@ module _ (c : Command) (m : Room) (p : Parsed) (o : Open c m p) where
       unfolding not_admitted
       row11 = rw (said.verb, f)
 
-      pub not_let_in : not a ≡ true → Refuse NotAdmitted ≡ decision_of c m
+      pub not_let_in : a ≡ false → Refuse NotAdmitted ≡ decision_of c m
       unfolding refusal rows
-      not_let_in h = refuses c m NotAdmitted (left _ ∙ skip _ _ starts ∙ skip _ _ (fault_is ∙ sound) ∙ hit _ _ (row11 ∙ h))
+      not_let_in h = refuses c m NotAdmitted (left _ ∙ skip _ _ starts ∙ skip _ _ (fault_is ∙ sound) ∙ hit _ _ (row11 ∙ ap not h))
 
-      pub let_in : not a ≡ false → LetIn c m p
-      let_in h = record { readable = o; start = starts; list = fault_is ∙ sound; admitted = row11 ∙ h }
+      pub let_in : a ≡ true → LetIn c m p
+      let_in h = record { readable = o; start = starts; list = fault_is ∙ sound; admitted = row11 ∙ ap not h }
 
 -- ---- rows 12 to 14
 module _ (c : Command) (m : Room) (p : Parsed) (l : LetIn c m p) where

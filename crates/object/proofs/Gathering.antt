@@ -1,6 +1,6 @@
 -- Bytes that are put one range after another at the start of Data-In.
 use Prim.Native.Nat.{ℕ, ◌+◌, ◌-◌, ◌*◌, ◌≤◌, ◌<◌, min}
-use mathlib.Core.Path.{◌≡◌, refl, sym, ◌∙◌}
+use mathlib.Core.Path.{◌≡◌, refl, sym, subst, ◌∙◌}
 use mathlib.Core.Bool.{false}
 use mathlib.Core.List.{List, [], ◌∷◌, ◌++◌, append-nil, append_assoc}
 use borrow.Author.Tests.{ltb-false, le-leb, lt-leb}
@@ -89,7 +89,7 @@ module _ (n : ℕ) (slice : Bytes) (fits : n ≤ length slice) (s : Bytes) where
 
     begins : (ltb n g.start ≡ false) × (any (λ (h : Range). ltb n h.start) (entries_from (left - 1) s (place + 16)) ≡ false)
     unfolding any
-    begins = or_false_parts (ltb n g.start) _ (rw (opened, object_length) at k.begun)
+    begins = or_false_parts (ltb n g.start) _ (subst (λ (m : ℕ). any (λ (h : Range). ltb m h.start) (g ∷ entries_from (left - 1) s (place + 16)) ≡ false) object_length (rw opened at k.begun))
 
     turn_begins : g.start ≤ n
     turn_begins = ltb-false n g.start begins.0

@@ -110,9 +110,9 @@ fn gather_list(
     logical: usize,
     input: &mut [u8],
 ) -> usize
-    requires n_in_bounds { (at + 16 * n ≤ length s.now) × (logical ≤ length slice.now) }
-    requires at_value { any (λ (g : Range). ltb logical g.start) (entries_from n s.now at) ≡ false }
-    requires at_in_bounds { total (entries_from n s.now at) ≤ length input.old }
+    requires within { (at + 16 * n ≤ length s.now) × (logical ≤ length slice.now) }
+    requires begun { any (λ (g : Range). ltb logical g.start) (entries_from n s.now at) ≡ false }
+    requires room { total (entries_from n s.now at) ≤ length input.old }
     ensures { let d = gathered (take logical slice.now) (entries_from n s.now at) in
         (result ≡ length d) × (input.new ≡ d ++ drop (length d) input.old) }
 {
@@ -134,8 +134,8 @@ fn gather_list(
 
 // The ranges are filled in order from Data-Out's bytes from `from` on.
 fn scatter_list(s: &[u8], at: usize, n: usize, out: &[u8], from: usize, slice: &mut [u8])
-    requires n_in_bounds { (at + 16 * n ≤ length s.now) × (from + total (entries_from n s.now at) ≤ length out.now) }
-    requires at_in_bounds { reach 0 (entries_from n s.now at) ≤ length slice.old }
+    requires within { (at + 16 * n ≤ length s.now) × (from + total (entries_from n s.now at) ≤ length out.now) }
+    requires room { reach 0 (entries_from n s.now at) ≤ length slice.old }
     ensures { slice.new ≡ scattered slice.old (entries_from n s.now at) (drop from out.now) }
 {
     let mut place = at;

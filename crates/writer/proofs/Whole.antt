@@ -97,12 +97,12 @@ pub record Ready (q : Request) (t : ℕ) : Type 0 where
   pub plan : Length t ≡ planned q
 
 -- the answers of the functions that test
-pub ready : {q : Request} {t : ℕ} {a b : Bool} {p : Plan} → a ≡ is_some (verb_of q.action) → not a ≡ false
-    → b ≡ not (capabilities_refused q) → not b ≡ false → p ≡ planned q → p ≡ Length t → Ready q t
+pub ready : {q : Request} {t : ℕ} {a b : Bool} {p : Plan} → a ≡ is_some (verb_of q.action) → a ≡ true
+    → b ≡ not (capabilities_refused q) → b ≡ true → p ≡ planned q → p ≡ Length t → Ready q t
 ready {q} {t} {a} {b} {p} ea na eb nb ep lp =
     record {
-      known = sym ea ∙ not-false a na;
-      sized = not-true (capabilities_refused q) (sym eb ∙ not-false b nb);
+      known = sym ea ∙ na;
+      sized = not-true (capabilities_refused q) (sym eb ∙ nb);
       plan = sym lp ∙ ep;
     }
 
@@ -127,19 +127,19 @@ module _ (q : Request) (c s : Bytes) {r : Written} where
   unfolding written writes
   refusing n e a = rw e (record { number = a.0; size = a.1; cdb = refl; segment = refl })
 
-  pub unknown : {a : Bool} → a ≡ is_some (verb_of q.action) → not a ≡ true → (r.number ≡ 16) × (r.size ≡ 0) → Wrote (written q c s) r c s
+  pub unknown : {a : Bool} → a ≡ is_some (verb_of q.action) → a ≡ false → (r.number ≡ 16) × (r.size ≡ 0) → Wrote (written q c s) r c s
   unknown e n = refusing 16 (ordered q (length c) (length s) ∙ rw (← e, n))
 
-  pub unsized : {a b : Bool} → a ≡ is_some (verb_of q.action) → not a ≡ false → b ≡ not (capabilities_refused q) → not b ≡ true
+  pub unsized : {a b : Bool} → a ≡ is_some (verb_of q.action) → a ≡ true → b ≡ not (capabilities_refused q) → b ≡ false
       → (r.number ≡ 16) × (r.size ≡ 0) → Wrote (written q c s) r c s
   unsized {a} {b} ea na eb nb =
-      let bad : capabilities_refused q ≡ true = not-false _ (sym eb ∙ not-true b nb) in
+      let bad : capabilities_refused q ≡ true = not-false _ (sym eb ∙ nb) in
       refusing 16 (ordered q (length c) (length s) ∙ rw (← ea, na, bad))
 
-  pub unplanned : {a b : Bool} {p : Plan} → a ≡ is_some (verb_of q.action) → not a ≡ false → b ≡ not (capabilities_refused q) → not b ≡ false
+  pub unplanned : {a b : Bool} {p : Plan} → a ≡ is_some (verb_of q.action) → a ≡ true → b ≡ not (capabilities_refused q) → b ≡ true
       → p ≡ planned q → p ≡ Refused → (r.number ≡ 16) × (r.size ≡ 0) → Wrote (written q c s) r c s
   unplanned {a} {b} ea na eb nb ep rp =
-      let good : capabilities_refused q ≡ false = not-true _ (sym eb ∙ not-false b nb) in
+      let good : capabilities_refused q ≡ false = not-true _ (sym eb ∙ nb) in
       refusing 16 (ordered q (length c) (length s) ∙ rw (← ea, na, good, plan_refused q (sym rp ∙ ep)))
 
   pub short_cdb : {t : ℕ} → Ready q t → length c < 236 → (r.number ≡ 17) × (r.size ≡ 0) → Wrote (written q c s) r c s
