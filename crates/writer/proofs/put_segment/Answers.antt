@@ -6,12 +6,10 @@ use mathlib.Core.Logic.{⊎_elim}
 use native.Mathlib.Omega.{arith}
 use lib.ListN.{length}
 use lib.Dec.{ltb}
-use borrow.Author.Tests.{not-true, not-false}
+use borrow.Author.Tests.{not-false}
 use Rattle.writer.specs.SegmentParts.{list_part, extension_part}
 use Rattle.writer.proofs.SegmentPieces.{for_list, for_extension, no_segment, segment_size, segment_laid}
-use borrow.Author.Rules.{rules}
-use Rattle.writer.proofs.put_segment.Statement.{statement}
-use Rattle.writer.proofs.put_segment.Tie as tie
+use Rattle.writer.proofs.put_segment.Goals as goal
 
 abbrev started : tie.Joined1 → tie.Start
 started c = c.before.before.before.before.before
@@ -32,41 +30,20 @@ room c =
     let a = s.args in
     omega (arith, s.pre.2, segment_size a.listed a.capabilities.now a.offsets.now a.lengths.now (some c) (λ e. (s.pre.0 e).0))
 
-returns : tie.Need-returns
-returns c = no_segment _ _ _ _ _ _ (not-true _ c.before.if1.true) c.if2.true
+pub returns-then-capabilities-le104 : goal.returns-then-capabilities-le104
+returns-then-capabilities-le104 c = no_segment _ _ _ _ _ _ c.if-not-listed.true c.if-capabilities-le104.true
 
-put-head-requires : tie.Need-put-head-requires
-put-head-requires c κs = omega (arith, room c.before)
+pub put_head-requires : goal.put_head-requires
+put_head-requires c = omega (arith, room c.before)
 
-put-list-requires : tie.Need-put-list-requires
-put-list-requires c κs =
-    let j = c.before.before.before.before.before in
+pub put_list-end-requires : goal.put_list-end-requires
+put_list-end-requires c =
     ((started j).requires.0, omega (arith, room j))
 
-put-extension-requires : tie.Need-put-extension-requires
-put-extension-requires c κs =
-    let l = c.before.before.before in
-    let j = l.before.before.before.before.before.before in
-    ((started j).requires.1, omega (arith, room j, l.put-list.ensures.0))
+pub put_extension-requires : goal.put_extension-requires
+put_extension-requires c =
+    ((started j).requires.1, omega (arith, room j, c.put_list-end.ensures.0))
 
-same_length : tie.Need-same-length
-same_length c = search rules
-
-returns-2 : tie.Need-returns-2
-returns-2 c =
-    let x = c.before.before in
-    let l = x.before.before.before.before in
-    let h = l.before.before.before.before in
-    let j = h.before.before in
-    segment_laid _ _ _ _ (some j) _ _ h.put-head.ensures l.put-list.ensures x.put-extension.ensures
-
-pub put-segment-spec : {M : Type 1} → statement M
-put-segment-spec =
-    tie.close
-    (tie.spec
-    returns
-    put-head-requires
-    put-list-requires
-    put-extension-requires
-    same_length
-    returns-2)
+pub returns : goal.returns
+returns c =
+    segment_laid _ _ _ _ (some j) _ _ c.put_head.ensures c.put_list-end.ensures c.put_extension.ensures
