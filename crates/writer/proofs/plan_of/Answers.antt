@@ -1,32 +1,7 @@
 -- `writer::plan_of` meets its contract.
-use Prim.Native.Nat.{ℕ}
 use mathlib.Core.Path.{sym, ◌∙◌}
-use borrow.Author.Tests.{not-false}
-use Rattle.rules.specs.Bytes.{Bytes}
-use Rattle.rules.specs.Writer.{Request}
-use Rattle.writer.specs.Planning.{request}
-use Rattle.writer.proofs.Planned.{unlisted, unequal, too_long, cleared, punched, started, sum_too_large, shared, Sound, apart, no_write}
+use Rattle.writer.proofs.Planned.{unlisted, unequal, too_long, cleared, punched, started, sum_too_large, shared, apart, no_write}
 use Rattle.writer.proofs.plan_of.Goals as goal
-
--- where the sum fits, only the overlap is left
-abbrev asked : tie.After-total → (p o : ℕ) → Bytes → Request
-asked c p o k =
-    let a = c.before.before.before.before.before.before.before.before.before.before.before.args in
-    request a.action p o a.start a.size a.listed a.offsets.now a.lengths.now k
-
-sound : (c : tie.After-total) (p o : ℕ) (k : Bytes) → Sound (asked c p o k) c.total.given.0.0
-sound c p o k =
-    let r = c.before.before in
-    let e₆ = r.before in
-    record {
-      listed = not-false _ e₆.before.before.before.before.before.if1.false;
-      equal = e₆.before.before.before.before.if2.false;
-      few = e₆.before.before.before.if3.false;
-      clear = e₆.before.before.if4.false;
-      punch = e₆.before.if5.false;
-      start = e₆.if6.false;
-      sum = λ os e. sym c.total.given.1 ∙ r.sum_of.ensures os e;
-    }
 
 pub returns-then-not-listed : goal.returns-then-not-listed
 returns-then-not-listed c = λ p o k. unlisted _ c.if-not-listed.true
@@ -55,7 +30,29 @@ returns-then-overlap c =
     λ p o k. shared _ c.if-not-listed.false c.if-n-lengths.false c.if-action-eq-WRITE.true c.overlap.ensures c.if-overlap.true
 
 pub returns-else-overlap : goal.returns-else-overlap
-returns-else-overlap c = λ p o k. apart _ (sound c.before.before.before.before p o k) c.overlap.ensures c.if-overlap.false
+returns-else-overlap c = λ p o k.
+    apart _
+    (record {
+      listed = c.if-not-listed.false;
+      equal = c.if-n-lengths.false;
+      few = c.if-n-gt64.false;
+      clear = c.if-action-eq-CLEAR.false;
+      punch = c.if-action-eq-PUNCH.false;
+      start = c.if-start-ne0.false;
+      sum = λ os e. sym c.in-Fits.is ∙ c.sum_of.ensures os e;
+    })
+    c.overlap.ensures c.if-overlap.false
 
 pub returns-else-action-eq-WRITE : goal.returns-else-action-eq-WRITE
-returns-else-action-eq-WRITE c = λ p o k. no_write _ (sound c.before.before p o k) c.if-action-eq-WRITE.false
+returns-else-action-eq-WRITE c = λ p o k.
+    no_write _
+    (record {
+      listed = c.if-not-listed.false;
+      equal = c.if-n-lengths.false;
+      few = c.if-n-gt64.false;
+      clear = c.if-action-eq-CLEAR.false;
+      punch = c.if-action-eq-PUNCH.false;
+      start = c.if-start-ne0.false;
+      sum = λ os e. sym c.in-Fits.is ∙ c.sum_of.ensures os e;
+    })
+    c.if-action-eq-WRITE.false

@@ -1,4 +1,3 @@
-use Prim.Native.Nat.{◌-◌}
 use mathlib.Core.Path.{refl, ◌∙◌}
 use native.Mathlib.Omega.{arith}
 use Rattle.writer.proofs.Beside.{pair_laid}
@@ -13,6 +12,6 @@ loop-i-preserved c =
     let l = c.loop-i in
     let one = pair_laid _ _ _ _ (omega (arith, c.requires)) c.put64.ensures c.put64-in-loop-i.ensures in (
       omega arith,
-      c.put64-in-loop-i.auto.0 ∙ c.put64.auto.0 ∙ l.invariant.1,
+      c.put64-in-loop-i.auto.d ∙ c.put64.auto.d ∙ l.invariant.1,
       entries_more _ _ _ _ _ c.loop-i-test.true c.requires.0 (omega (arith, c.requires)) l.invariant.2 one,
     )

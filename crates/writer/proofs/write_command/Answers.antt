@@ -1,25 +1,9 @@
 -- `writer::write_command` meets its contract.
 use native.Mathlib.Omega.{arith}
-use Rattle.rules.specs.Writer.{Request}
-use Rattle.rules.proofs.Accepted.{fits_field}
-use Rattle.writer.specs.Planning.{request}
-use Rattle.writer.proofs.Whole.{Ready, ready, acceptable, list_fits}
+use Rattle.rules.proofs.Accepted.{one_given, fits_field}
+use Rattle.writer.proofs.Whole.{ready, acceptable, list_fits}
 use Rattle.writer.proofs.Whole.{unknown, unsized, unplanned, short_cdb, short_segment, carried_out}
 use Rattle.writer.proofs.write_command.Goals as goal
-
--- the request, and what was found of it when LENGTH is known
-abbrev asked : tie.After-plan-of → Request
-asked c =
-    let a = c.before.before.before.before.before.before.before.before.before.before.args in
-    request a.action a.partition a.object a.start a.size a.listed a.offsets.now a.lengths.now a.capabilities.now
-
-found : (c : tie.After-total) → Ready (asked c.before.before) c.total.given.0.0
-found c =
-    let p = c.before.before in
-    let s = p.before.before in
-    let k = s.before.before in
-    ready {q = asked p} k.known.ensures s.before.if1.false s.sized.ensures p.before.if2.false (p.plan-of.ensures _ _ _)
-    c.total.given.1
 
 pub returns-then-not-known : goal.returns-then-not-known
 returns-then-not-known c = unknown _ _ _ c.known.ensures c.if-not-known.true c.answer.ensures
@@ -30,36 +14,40 @@ returns-then-not-sized c =
 
 pub returns-in_default : goal.returns-in_default
 returns-in_default c =
-    unplanned (asked p) _ _ c.known.ensures c.if-not-known.false c.sized.ensures c.if-not-sized.false (c.plan_of.ensures _ _ _)
+    unplanned _ _ _ c.known.ensures c.if-not-known.false c.sized.ensures c.if-not-sized.false (c.plan_of.ensures _ _ _)
     c.in_default.is c.answer-in_default.ensures
 
 pub segment_size-need-requires : goal.segment_size-need-requires
 segment_size-need-requires c =
-    let a = acceptable (found c.before) in
+    let a = acceptable (ready c.known.ensures c.if-not-known.false c.sized.ensures c.if-not-sized.false (c.plan_of.ensures c.args.partition c.args.object c.args.capabilities.now) c.in-Length.is) in
     (a.few, a.limited)
 
 pub returns-then-cdb-lt236 : goal.returns-then-cdb-lt236
 returns-then-cdb-lt236 c =
-    short_cdb _ _ _ (found z.before.before) c.if-cdb-lt236.true c.answer-then-cdb-lt236.ensures
+    short_cdb _ _ _ (ready c.known.ensures c.if-not-known.false c.sized.ensures c.if-not-sized.false (c.plan_of.ensures c.args.partition c.args.object c.args.capabilities.now) c.in-Length.is)
+    c.if-cdb-lt236.true c.answer-then-cdb-lt236.ensures
 
 pub returns-then-segment-need : goal.returns-then-segment-need
 returns-then-segment-need c =
-    short_segment _ _ _ (found z.before.before) c.segment_size-need.ensures.0 c.if-segment-need.true c.answer-then-segment-need.ensures
+    short_segment _ _ _ (ready c.known.ensures c.if-not-known.false c.sized.ensures c.if-not-sized.false (c.plan_of.ensures c.args.partition c.args.object c.args.capabilities.now) c.in-Length.is)
+    c.segment_size-need.ensures.0 c.if-segment-need.true c.answer-then-segment-need.ensures
 
 pub overflow_cast-action : goal.overflow_cast-action
-overflow_cast-action c =
-    record { fits = fits_field _ (found t).known }
+overflow_cast-action c = record { fits = fits_field _ (ready c.known.ensures c.if-not-known.false c.sized.ensures c.if-not-sized.false (c.plan_of.ensures c.args.partition c.args.object c.args.capabilities.now) c.in-Length.is).known }
 
 pub overflow_cast-action-2 : goal.overflow_cast-action-2
-overflow_cast-action-2 c =
-    record { fits = fits_field _ (found t).known }
+overflow_cast-action-2 c = record { fits = fits_field _ (ready c.known.ensures c.if-not-known.false c.sized.ensures c.if-not-sized.false (c.plan_of.ensures c.args.partition c.args.object c.args.capabilities.now) c.in-Length.is).known }
+
+pub put_cdb-requires : goal.put_cdb-requires
+put_cdb-requires c = (c.if-cdb-lt236.false, one_given (acceptable (ready c.known.ensures c.if-not-known.false c.sized.ensures c.if-not-sized.false (c.plan_of.ensures c.args.partition c.args.object c.args.capabilities.now) c.in-Length.is)))
 
 pub put_segment-requires : goal.put_segment-requires
 put_segment-requires c =
-    let k = found z.before.before in
+    let k = (ready c.known.ensures c.if-not-known.false c.sized.ensures c.if-not-sized.false (c.plan_of.ensures c.args.partition c.args.object c.args.capabilities.now) c.in-Length.is) in
     (list_fits k, (acceptable k).limited, omega (arith, c.segment_size-need.ensures.0, c.if-segment-need.false))
 
 pub returns : goal.returns
 returns c =
-    carried_out _ _ _ (found z.before.before) c.segment_size-need.ensures.0 c.if-cdb-lt236.false c.if-segment-need.false
+    carried_out _ _ _ (ready c.known.ensures c.if-not-known.false c.sized.ensures c.if-not-sized.false (c.plan_of.ensures c.args.partition c.args.object c.args.capabilities.now) c.in-Length.is)
+    c.segment_size-need.ensures.0 c.if-cdb-lt236.false c.if-segment-need.false
     c.put_cdb.ensures c.put_segment.ensures c.answer-2.ensures
