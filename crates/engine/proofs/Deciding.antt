@@ -15,7 +15,7 @@ use Rattle.rules.specs.declared.Verb.{Verb}
 use Rattle.rules.specs.declared.Verb.TheVariants.{Read, Write, Clear, Punch}
 use Rattle.rules.specs.Bytes.{Bytes, zeros}
 use Rattle.rules.specs.Tests.{first_of}
-use Rattle.rules.specs.Command.{Command, length_of, verb, segment, payload, sole_range}
+use Rattle.rules.specs.Command.{Command, length_of, verb, payload, sole_range}
 use Rattle.rules.specs.Ranges.{total}
 use Rattle.rules.specs.Reading.{found, ranges}
 use Rattle.rules.specs.Header.{header}
