@@ -1,19 +1,14 @@
 -- Contracts are complete: any two answers that one allows are equal, and so is what they leave in each slice and number that was lent
 -- to be written. `F.Post` is what the function F ensures, as the toolchain makes it of the source: a are its arguments, r and r'
 -- two answers, s and s' its parameters at the return, in their order (the third is `s.1.1.0`). What is lent by `&` can't change.
-use Prim.Native.Nat.{ℕ}
 use mathlib.Core.Path.{◌≡◌, ap, sym, ◌∙◌}
 use lib.ListN.{length-replicate}
-use denote.Ref.{Bor}
-use Rattle.rules.specs.declared.Here.{Here}
 use Rattle.rules.specs.declared.Record.{Record}
 use Rattle.rules.specs.Bytes.{Bytes, zeros}
 use Rattle.rules.specs.Answer.{Answered}
 use Rattle.rules.specs.Writer.{Written}
-use Rattle.reader.specs.declared.Position.{Position}
-use Rattle.reader.specs.Position.{start, met, after, left}
 use Rattle.holmweder.specs.Face.{Seen}
-use Rattle.rules.proofs.Record.with_length.Reads as with-length
+use Rattle.rules.proofs.Record.with_length.Reads as with_length
 use Rattle.rules.proofs.Record.shortened.Reads as shortened
 use Rattle.wire.proofs.get16.Reads as get16
 use Rattle.wire.proofs.get32.Reads as get32
@@ -23,55 +18,59 @@ use Rattle.wire.proofs.put64.Reads as put64
 use Rattle.movers.proofs.copy.Reads as copy
 use Rattle.movers.proofs.wipe.Reads as wipe
 use Rattle.movers.proofs.move_down.Reads as move_down
-use Rattle.numbers.proofs.number_of.Reads as number_of_lem
-use Rattle.numbers.proofs.sense_key.Reads as sense-key
-use Rattle.numbers.proofs.sense_code.Reads as sense-code
-use Rattle.numbers.proofs.status_of.Reads as status-of
-use Rattle.segment.proofs.standing_at.Reads as standing-at
+use Rattle.numbers.proofs.number_of.Reads as number_of
+use Rattle.numbers.proofs.sense_key.Reads as sense_key
+use Rattle.numbers.proofs.sense_code.Reads as sense_code
+use Rattle.numbers.proofs.status_of.Reads as status_of
+use Rattle.segment.proofs.standing_at.Reads as standing_at
 use Rattle.segment.proofs.entry_at.Reads as entry_at
 use Rattle.segment.proofs.step_from.Reads as step_from
-use Rattle.segment.proofs.walk_over.Reads as walk-over
+use Rattle.segment.proofs.walk_over.Reads as walk_over
+use Rattle.reader.proofs.first_of.Reads as first_of
+use Rattle.reader.proofs.step.Reads as step
+use Rattle.reader.proofs.moved.Reads as moved
+use Rattle.reader.proofs.left_of.Reads as left_of
 use Rattle.reader.proofs.nth_of.Reads as nth_of
-use Rattle.header.proofs.read_front.Reads as read-front
-use Rattle.header.proofs.is_other.Reads as is-other
-use Rattle.header.proofs.read_segment.Reads as read-segment
-use Rattle.header.proofs.read_command.Reads as read-command
+use Rattle.header.proofs.read_front.Reads as read_front
+use Rattle.header.proofs.is_other.Reads as is_other
+use Rattle.header.proofs.read_segment.Reads as read_segment
+use Rattle.header.proofs.read_command.Reads as read_command
 use Rattle.ranges.proofs.sum_of.Reads as sum_of
 use Rattle.ranges.proofs.overlap.Reads as overlap
-use Rattle.ranges.proofs.is_list_fault.Reads as is-list-fault
-use Rattle.ranges.proofs.starts_beyond_in.Reads as starts-beyond-in
-use Rattle.ranges.proofs.reach_more.Reads as reach-more
-use Rattle.ranges.proofs.reach_in.Reads as reach-in
-use Rattle.capability.proofs.is_match.Reads as is-match
-use Rattle.capability.proofs.allowance_of.Reads as allowance-of
-use Rattle.capability.proofs.is_allowed.Reads as is-allowed
-use Rattle.capability.proofs.is_inside.Reads as is-inside
-use Rattle.capability.proofs.sought_by.Reads as sought-by
-use Rattle.admission.proofs.is_admitted.Reads as is-admitted
-use Rattle.question.proofs.place_that_admits.Reads as place-that-admits
-use Rattle.question.proofs.capability_that_admits.Reads as capability-that-admits
+use Rattle.ranges.proofs.is_list_fault.Reads as is_list_fault
+use Rattle.ranges.proofs.starts_beyond_in.Reads as starts_beyond_in
+use Rattle.ranges.proofs.reach_more.Reads as reach_more
+use Rattle.ranges.proofs.reach_in.Reads as reach_in
+use Rattle.capability.proofs.is_match.Reads as is_match
+use Rattle.capability.proofs.allowance_of.Reads as allowance_of
+use Rattle.capability.proofs.is_allowed.Reads as is_allowed
+use Rattle.capability.proofs.is_inside.Reads as is_inside
+use Rattle.capability.proofs.sought_by.Reads as sought_by
+use Rattle.admission.proofs.is_admitted.Reads as is_admitted
+use Rattle.question.proofs.place_that_admits.Reads as place_that_admits
+use Rattle.question.proofs.capability_that_admits.Reads as capability_that_admits
 use Rattle.decision.proofs.decide.Reads as decide
-use Rattle.object.proofs.clear_range.Reads as clear-range
+use Rattle.object.proofs.clear_range.Reads as clear_range
 use Rattle.object.proofs.punch.Reads as punch
-use Rattle.object.proofs.sole_range.Reads as sole_range_lem
-use Rattle.object.proofs.gather_ranges.Reads as gather-ranges
-use Rattle.object.proofs.scatter_ranges.Reads as scatter-ranges
+use Rattle.object.proofs.sole_range.Reads as sole_range
+use Rattle.object.proofs.gather_ranges.Reads as gather_ranges
+use Rattle.object.proofs.scatter_ranges.Reads as scatter_ranges
 use Rattle.actions.proofs.read.Reads as read
 use Rattle.actions.proofs.write.Reads as write
 use Rattle.actions.proofs.clear.Reads as clear
-use Rattle.actions.proofs.punch.Reads as punch-action
+use Rattle.actions.proofs.punch.Reads as punch_action
 use Rattle.engine.proofs.execute.Reads as execute
-use Rattle.writer.proofs.write_command.Reads as write-command
-use Rattle.holmweder.proofs.holmweder_execute.Reads as holmweder-execute
-use Rattle.holmweder.proofs.holmweder_admission.Reads as holmweder-admission
-use Rattle.holmweder.proofs.holmweder_sense_key.Reads as holmweder-sense-key
-use Rattle.holmweder.proofs.holmweder_sense_code.Reads as holmweder-sense-code
-use Rattle.holmweder.proofs.holmweder_status.Reads as holmweder-status
-use Rattle.holmweder.proofs.holmweder_write.Reads as holmweder-write
+use Rattle.writer.proofs.write_command.Reads as write_command
+use Rattle.holmweder.proofs.holmweder_execute.Reads as holmweder_execute
+use Rattle.holmweder.proofs.holmweder_admission.Reads as holmweder_admission
+use Rattle.holmweder.proofs.holmweder_sense_key.Reads as holmweder_sense_key
+use Rattle.holmweder.proofs.holmweder_sense_code.Reads as holmweder_sense_code
+use Rattle.holmweder.proofs.holmweder_status.Reads as holmweder_status
+use Rattle.holmweder.proofs.holmweder_write.Reads as holmweder_write
 use Rattle.callfile.proofs.layout_of.Reads as layout_of
 use Rattle.callfile.proofs.record_of.Reads as record_of
-use Rattle.callfile.proofs.line_of.Reads as Line-of
-use Rattle.callfile.proofs.code_text.Reads as code-text
+use Rattle.callfile.proofs.line_of.Reads as line_of
+use Rattle.callfile.proofs.code_text.Reads as code_text
 
 -- two answers that a promise P allows
 abbrev One : {K : Type 0} {A R S : K → Type 0} → ((κs : K) → A κs → R κs → S κs → Type 0) → Type 0
@@ -86,7 +85,7 @@ abbrev Both : {K : Type 0} {A R S : K → Type 0} → ((κs : K) → A κs → R
 Both {K} {A} {R} {S} P v = (κs : K) (a : A κs) (r r' : R κs) (s s' : S κs) → P κs a r s → P κs a r' s' → (r ≡ r') × (v κs s ≡ v κs s')
 
 -- ---- `rules`: the record's methods
-one_with_length : One with-length.Post
+one_with_length : One with_length.Post
 one_with_length κs a r r' s s' e f = e ∙ sym f
 
 one_shortened : One shortened.Post
@@ -119,20 +118,20 @@ one_move_down : Left move_down.Post (λ κs s. s.0.now)
 one_move_down κs a r r' s s' e f = e ∙ sym f
 
 -- ---- `numbers`: numbers, sense and status
-one_number_of : One number_of_lem.Post
+one_number_of : One number_of.Post
 one_number_of κs a r r' s s' e f = e ∙ sym f
 
-one_sense_key : One sense-key.Post
+one_sense_key : One sense_key.Post
 one_sense_key κs a r r' s s' e f = e ∙ sym f
 
-one_sense_code : One sense-code.Post
+one_sense_code : One sense_code.Post
 one_sense_code κs a r r' s s' e f = e ∙ sym f
 
-one_status_of : One status-of.Post
+one_status_of : One status_of.Post
 one_status_of κs a r r' s s' e f = e ∙ sym f
 
 -- ---- `segment`: what stands at a position, and the walk
-one_standing_at : One standing-at.Post
+one_standing_at : One standing_at.Post
 one_standing_at κs a r r' s s' e f = e ∙ sym f
 
 one_entry_at : One entry_at.Post
@@ -141,43 +140,46 @@ one_entry_at κs a r r' s s' e f = e ∙ sym f
 one_step_from : One step_from.Post
 one_step_from κs a r r' s s' e f = e ∙ sym f
 
-one_walk_over : One walk-over.Post
+one_walk_over : One walk_over.Post
 one_walk_over κs a r r' s s' e f = e ∙ sym f
 
 -- ---- `reader`: the reader
 one_nth_of : One nth_of.Post
 one_nth_of κs a r r' s s' e f = e ∙ sym f
 
--- Of the four functions over a `Reader` the toolchain makes no `Post`, since it holds a reference. What they ensure is
--- written out again here, with d for the segment's bytes and v for the segment as it is held.
-one_first_of : (v : Bor Bytes) (r r' : Bor Bytes × Position) → (r.0 ≡ v) × (r.1 ≡ start) → (r'.0 ≡ v) × (r'.1 ≡ start) → (r.0 ≡ r'.0) × (r.1 ≡ r'.1)
-one_first_of v r r' e f = (e.0 ∙ sym f.0, e.1 ∙ sym f.1)
+one_first_of : (κs : _) (a : _) (r r' : _) (s s' : _)
+    → first_of.Post κs a r s → first_of.Post κs a r' s'
+    → (r.segment ≡ r'.segment)
+    × (r.position ≡ r'.position)
+one_first_of κs a r r' s s' e f = (e.0 ∙ sym f.0, e.1 ∙ sym f.1)
 
-one_step : (d : Bytes) (p : Position) (r r' : Here) → r ≡ met d p → r' ≡ met d p → r ≡ r'
-one_step d p r r' e f = e ∙ sym f
+one_step : One step.Post
+one_step κs a r r' s s' e f = e ∙ sym f
 
-one_moved : (v : Bor Bytes) (d : Bytes) (p : Position) (n : ℕ) (r r' : Bor Bytes × Position)
-    → (r.0 ≡ v) × (r.1 ≡ after n d p) → (r'.0 ≡ v) × (r'.1 ≡ after n d p) → (r.0 ≡ r'.0) × (r.1 ≡ r'.1)
-one_moved v d p n r r' e f = (e.0 ∙ sym f.0, e.1 ∙ sym f.1)
+one_moved : (κs : _) (a : _) (r r' : _) (s s' : _)
+    → moved.Post κs a r s → moved.Post κs a r' s'
+    → (r.segment ≡ r'.segment)
+    × (r.position ≡ r'.position)
+one_moved κs a r r' s s' e f = (e.0 ∙ sym f.0, e.1 ∙ sym f.1)
 
-one_left_of : (d : Bytes) (p : Position) (r r' : ℕ) → r ≡ left d p → r' ≡ left d p → r ≡ r'
-one_left_of d p r r' e f = e ∙ sym f
+one_left_of : One left_of.Post
+one_left_of κs a r r' s s' e f = e ∙ sym f
 
 -- ---- `header`: rows 2 to 8
-one_read_front : One read-front.Post
+one_read_front : One read_front.Post
 one_read_front κs a r r' s s' e f = e ∙ sym f
 
-one_is_other : One is-other.Post
+one_is_other : One is_other.Post
 one_is_other κs a r r' s s' e f = e ∙ sym f
 
 -- what is promised of every record, at one of them
 anybody : Record
 anybody = record { partition = 0; object = 0; length = 0; maximum = 0; tag = 0; epoch = 0 }
 
-one_read_segment : One read-segment.Post
+one_read_segment : One read_segment.Post
 one_read_segment κs a r r' s s' e f = e anybody ∙ sym (f anybody)
 
-one_read_command : One read-command.Post
+one_read_command : One read_command.Post
 one_read_command κs a r r' s s' e f = e ∙ sym f
 
 -- ---- `ranges`: two slices of numbers, and a list's entries where they stand
@@ -187,46 +189,46 @@ one_sum_of κs a r r' s s' e f = e (zeros a.1.0) (length-replicate _ 0) ∙ sym 
 one_overlap : One overlap.Post
 one_overlap κs a r r' s s' e f = e ∙ sym f
 
-one_is_list_fault : One is-list-fault.Post
+one_is_list_fault : One is_list_fault.Post
 one_is_list_fault κs a r r' s s' e f = e ∙ sym f
 
-one_starts_beyond_in : One starts-beyond-in.Post
+one_starts_beyond_in : One starts_beyond_in.Post
 one_starts_beyond_in κs a r r' s s' e f = e ∙ sym f
 
-one_reach_more : One reach-more.Post
+one_reach_more : One reach_more.Post
 one_reach_more κs a r r' s s' e f = e ∙ sym f
 
-one_reach_in : One reach-in.Post
+one_reach_in : One reach_in.Post
 one_reach_in κs a r r' s s' e f = e ∙ sym f
 
 -- ---- `capability`: one capability
-one_is_match : One is-match.Post
+one_is_match : One is_match.Post
 one_is_match κs a r r' s s' e f = e ∙ sym f
 
-one_allowance_of : One allowance-of.Post
+one_allowance_of : One allowance_of.Post
 one_allowance_of κs a r r' s s' e f = e ∙ sym f
 
-one_is_allowed : One is-allowed.Post
+one_is_allowed : One is_allowed.Post
 one_is_allowed κs a r r' s s' e f = e ∙ sym f
 
-one_is_inside : One is-inside.Post
+one_is_inside : One is_inside.Post
 one_is_inside κs a r r' s s' e f = e ∙ sym f
 
-one_sought_by : One sought-by.Post
+one_sought_by : One sought_by.Post
 one_sought_by κs a r r' s s' e f = e ∙ sym f
 
 -- ---- `admission`: row 11
-one_is_admitted : One is-admitted.Post
+one_is_admitted : One is_admitted.Post
 one_is_admitted κs a r r' s s' e f = e ∙ sym f
 
 -- ---- `question`: the admission question
-one_place_that_admits : One place-that-admits.Post
+one_place_that_admits : One place_that_admits.Post
 one_place_that_admits κs a r r' s s' e f = e ∙ sym f
 
 one_capability_that_admits : (κs : _) (a : _) (r r' : _) (s s' : _)
-    → capability-that-admits.Post κs a r s → capability-that-admits.Post κs a r' s'
+    → capability_that_admits.Post κs a r s → capability_that_admits.Post κs a r' s'
     → (r.now ≡ r'.now)
-    × (r.ptr ≡ r'.ptr)
+    × (r.ref_ptr ≡ r'.ref_ptr)
 one_capability_that_admits κs a r r' s s' e f = (e.bytes ∙ sym f.bytes, e.place ∙ sym f.place)
 
 -- ---- `decision`: the decision
@@ -234,19 +236,19 @@ one_decide : One decide.Post
 one_decide κs a r r' s s' e f = e ∙ sym f
 
 -- ---- `object`: a command's ranges
-one_clear_range : Left clear-range.Post (λ κs s. s.0.now)
+one_clear_range : Left clear_range.Post (λ κs s. s.0.now)
 one_clear_range κs a r r' s s' e f = e ∙ sym f
 
 one_punch : Both punch.Post (λ κs s. s.0.now)
 one_punch κs a r r' s s' e f = (e.0 ∙ sym f.0, e.1 ∙ sym f.1)
 
-one_sole_range : One sole_range_lem.Post
+one_sole_range : One sole_range.Post
 one_sole_range κs a r r' s s' e f = e ∙ sym f
 
-one_gather_ranges : Both gather-ranges.Post (λ κs s. s.1.1.1.1.0.now)
+one_gather_ranges : Both gather_ranges.Post (λ κs s. s.1.1.1.1.0.now)
 one_gather_ranges κs a r r' s s' e f = (e.0 ∙ sym f.0, e.1 ∙ sym f.1)
 
-one_scatter_ranges : Left scatter-ranges.Post (λ κs s. s.1.1.1.1.1.0.now)
+one_scatter_ranges : Left scatter_ranges.Post (λ κs s. s.1.1.1.1.1.0.now)
 one_scatter_ranges κs a r r' s s' e f = e ∙ sym f
 
 -- ---- `actions`: what each verb does
@@ -260,7 +262,7 @@ one_clear : Both clear.Post (λ κs s. s.1.1.1.0.now)
 one_clear κs a r r' s s' e f = (e.0 ∙ sym f.0, e.1 ∙ sym f.1)
 
 -- `one_punch` is of the object
-one_punch_action : Both punch-action.Post (λ κs s. s.1.1.0.now)
+one_punch_action : Both punch_action.Post (λ κs s. s.1.1.0.now)
 one_punch_action κs a r r' s s' e f = (e.0 ∙ sym f.0, e.1 ∙ sym f.1)
 
 -- ---- `engine`: the engine
@@ -275,7 +277,7 @@ one_execute κs a r r' s s' e f =
 
 -- ---- `writer`: the host's writer
 one_write_command : (κs : _) (a : _) (r r' : _) (s s' : _)
-    → write-command.Post κs a r s → write-command.Post κs a r' s'
+    → write_command.Post κs a r s → write_command.Post κs a r' s'
     → (r.number ≡ r'.number)
     × (r.size ≡ r'.size)
     × (s.1.1.1.1.1.1.1.1.1.0.now ≡ s'.1.1.1.1.1.1.1.1.1.0.now)
@@ -284,7 +286,7 @@ one_write_command κs a r r' s s' e f = (e.number ∙ sym f.number, e.size ∙ s
 
 -- ---- `holmweder`: the C face
 one_holmweder_execute : (κs : _) (a : _) (r r' : _) (s s' : _)
-    → holmweder-execute.Post κs a r s → holmweder-execute.Post κs a r' s'
+    → holmweder_execute.Post κs a r s → holmweder_execute.Post κs a r' s'
     → (r ≡ r')
     × (s.1.1.1.1.1.1.1.1.0.now ≡ s'.1.1.1.1.1.1.1.1.0.now)
     × (s.1.1.1.1.1.1.1.1.1.0.now ≡ s'.1.1.1.1.1.1.1.1.1.0.now)
@@ -300,22 +302,22 @@ one_holmweder_execute κs a r r' s s' e f =
     )
 
 one_holmweder_admission : (κs : _) (a : _) (r r' : _) (s s' : _)
-    → holmweder-admission.Post κs a r s → holmweder-admission.Post κs a r' s'
+    → holmweder_admission.Post κs a r s → holmweder_admission.Post κs a r' s'
     → (r ≡ r')
     × (s.1.1.1.1.1.1.1.1.1.1.0.now ≡ s'.1.1.1.1.1.1.1.1.1.1.0.now)
 one_holmweder_admission κs a r r' s s' e f = (e.lent ∙ sym f.lent, e.offset ∙ sym f.offset)
 
-one_holmweder_sense_key : One holmweder-sense-key.Post
+one_holmweder_sense_key : One holmweder_sense_key.Post
 one_holmweder_sense_key κs a r r' s s' e f = e ∙ sym f
 
-one_holmweder_sense_code : One holmweder-sense-code.Post
+one_holmweder_sense_code : One holmweder_sense_code.Post
 one_holmweder_sense_code κs a r r' s s' e f = e ∙ sym f
 
-one_holmweder_status : One holmweder-status.Post
+one_holmweder_status : One holmweder_status.Post
 one_holmweder_status κs a r r' s s' e f = e ∙ sym f
 
 one_holmweder_write : (κs : _) (a : _) (r r' : _) (s s' : _)
-    → holmweder-write.Post κs a r s → holmweder-write.Post κs a r' s'
+    → holmweder_write.Post κs a r s → holmweder_write.Post κs a r' s'
     → (r ≡ r')
     × (s.1.1.1.1.1.1.1.1.1.0.now ≡ s'.1.1.1.1.1.1.1.1.1.0.now)
     × (s.1.1.1.1.1.1.1.1.1.1.0.now ≡ s'.1.1.1.1.1.1.1.1.1.1.0.now)
@@ -331,8 +333,8 @@ one_layout_of κs a r r' s s' e f = e ∙ sym f
 one_record_of : One record_of.Post
 one_record_of κs a r r' s s' e f = e ∙ sym f
 
-one_line_of : One Line-of.Post
+one_line_of : One line_of.Post
 one_line_of κs a r r' s s' e f = e ∙ sym f
 
-one_code_text : One code-text.Post
+one_code_text : One code_text.Post
 one_code_text κs a r r' s s' e f = e ∙ sym f
