@@ -3,7 +3,7 @@
 
 #![tactic(auto)]
 
-ghost use Rattle.std.specs.Prelude.{◌≡◌, ◌≤◌, length};
+ghost use Rattle.std.specs.Prelude.{◌≡◌, ◌≤◌, length, IfOk};
 ghost use Rattle.rules.specs.Bytes.{zeros};
 ghost use Rattle.rules.specs.Answer.{answered};
 ghost use Rattle.header.specs.Reading.{command};
@@ -11,8 +11,9 @@ ghost use Rattle.callfile.specs.File.{end, bytes_of, Inside};
 ghost use Rattle.bench.specs.Reply.{answer_to, reply_to};
 
 use callfile::{Layout, Line, Sections};
-use libc::{STDIN_FILENO, STDOUT_FILENO};
 use rules::{Answer, Part, Record};
+use std::io;
+use std::io::{Read, Write};
 
 #[derive(Clone, Copy)]
 enum Reply {
@@ -63,35 +64,44 @@ fn reply_to(file: &[u8]) -> Reply
     Reply::Told(callfile::line_of(answer_to(file, sections)))
 }
 
-fn print_line(line: Line) {
-    io::print_decimal(STDOUT_FILENO, line.number as u64);
-    io::write_all(STDOUT_FILENO, b" ");
-    io::print_decimal(STDOUT_FILENO, line.key as u64);
-    io::write_all(STDOUT_FILENO, b" ");
-    io::write_all(STDOUT_FILENO, &callfile::code_text(line.code));
-    io::write_all(STDOUT_FILENO, b" ");
-    io::print_decimal(STDOUT_FILENO, line.count);
-    io::write_all(STDOUT_FILENO, b" ");
-    io::print_decimal(STDOUT_FILENO, line.length);
-    io::write_all(STDOUT_FILENO, b"\n");
+fn print_line(rt: &HostRuntime, line: Line) -> io::Result<()> {
+    let Line {
+        number,
+        key,
+        code,
+        count,
+        length,
+    } = line;
+    print!(rt; "{number} {key} ")?;
+    rt.stdout().write_all(&callfile::code_text(code))?;
+    println!(rt; " {count} {length}")
 }
 
-fn print_reply(reply: Reply) {
+fn print_reply(rt: &HostRuntime, reply: Reply) -> io::Result<()> {
     match reply {
-        Reply::BadFile => {
-            io::write_all(STDOUT_FILENO, b"bad file\n");
-        }
-        Reply::Told(line) => print_line(line),
+        Reply::BadFile => println!(rt; "bad file"),
+        Reply::Told(line) => print_line(rt, line),
     }
 }
 
-fn answer_input(space: &mut [u8]) {
-    let size = io::read_full(STDIN_FILENO, space);
-    print_reply(reply_to(&space[..size]));
+// Reads until the space is full or the input ends, and answers how many bytes there are.
+fn fill(rt: &HostRuntime, space: &mut [u8]) -> io::Result<usize>
+    ensures { IfOk result (λ n. n ≤ length space.new) }
+{
+    let mut done = 0;
+    while done < space.len() {
+        let more = rt.stdin().read(&mut space[done..])?;
+        if more == 0 {
+            return Ok(done);
+        }
+        done += more;
+    }
+    Ok(done)
 }
 
 // A sound file has 25,654 bytes at most. One that fills the buffer goes on behind its slice, whatever was left unread.
-fn main() {
-    let mut space = io::large_buffer();
-    answer_input(&mut space);
+fn main(rt: HostRuntime) -> io::Result<()> {
+    let mut space = [0u8; 65536];
+    let size = fill(&rt, &mut space)?;
+    print_reply(&rt, reply_to(&space[..size]))
 }
