@@ -17,8 +17,7 @@ use question::Place;
 use rules::{Range, Record};
 
 // One command, on the record as numbers.
-#[unsafe(no_mangle)]
-pub extern "C" fn holmweder_execute(
+pub fn holmweder_execute(
     cdb: &[u8],
     out: &[u8],
     partition: u64,
@@ -53,8 +52,7 @@ pub extern "C" fn holmweder_execute(
 }
 
 // Which capability of a command admits a range: whose it is, and where its 104 bytes stand there.
-#[unsafe(no_mangle)]
-pub extern "C" fn holmweder_admission(
+pub fn holmweder_admission(
     cdb: &[u8],
     out: &[u8],
     partition: u64,
@@ -96,30 +94,26 @@ pub extern "C" fn holmweder_admission(
     }
 }
 
-#[unsafe(no_mangle)]
-pub extern "C" fn holmweder_sense_key(number: u32) -> u32
+pub fn holmweder_sense_key(number: u32) -> u32
     ensures { result ≡ (sense number).key }
 {
     numbers::sense_key(number)
 }
 
-#[unsafe(no_mangle)]
-pub extern "C" fn holmweder_sense_code(number: u32) -> u32
+pub fn holmweder_sense_code(number: u32) -> u32
     ensures { result ≡ (sense number).code }
 {
     numbers::sense_code(number)
 }
 
-#[unsafe(no_mangle)]
-pub extern "C" fn holmweder_status(number: u32) -> u32
+pub fn holmweder_status(number: u32) -> u32
     ensures { result ≡ status number }
 {
     numbers::status_of(number)
 }
 
 // A command for the engine, from what it is to say. Any `listed` but 0 is yes.
-#[unsafe(no_mangle)]
-pub extern "C" fn holmweder_write(
+pub fn holmweder_write(
     action: u64,
     partition: u64,
     object: u64,

@@ -1,0 +1,131 @@
+// The C face's archive: the entry points of include/holmweder.h, exported. Each is the function of `holmweder` that has its name, with
+// the same promise.
+
+#![tactic(auto)]
+
+ghost use Rattle.std.specs.Prelude.{◌≡◌, not, eqb};
+ghost use Rattle.rules.specs.Numbers.{sense, status};
+ghost use Rattle.rules.specs.Admission.{question};
+ghost use Rattle.rules.specs.Answer.{answered};
+ghost use Rattle.rules.specs.Writer.{written};
+ghost use Rattle.header.specs.Reading.{command};
+ghost use Rattle.question.specs.Places.{place_of};
+ghost use Rattle.writer.specs.Planning.{request};
+ghost use Rattle.holmweder.specs.Face.{record_of, range_of, seen, seen_of, Told, wrote};
+
+// One command, on the record as numbers.
+#[unsafe(no_mangle)]
+pub extern "C" fn holmweder_execute(
+    cdb: &[u8],
+    out: &[u8],
+    partition: u64,
+    object: u64,
+    logical: u64,
+    maximum: u64,
+    tag: u32,
+    epoch: u16,
+    slice: &mut [u8],
+    input: &mut [u8],
+    count: &mut u64,
+    next_length: &mut u64,
+) -> u32
+    ensures { seen result count.new next_length.new slice.new input.new
+        ≡ seen_of (answered (command cdb.now out.now (record_of partition object logical maximum tag epoch))
+        slice.old input.old) }
+{
+    holmweder::holmweder_execute(
+        cdb,
+        out,
+        partition,
+        object,
+        logical,
+        maximum,
+        tag,
+        epoch,
+        slice,
+        input,
+        count,
+        next_length,
+    )
+}
+
+// Which capability of a command admits a range: whose it is, and where its 104 bytes stand there.
+#[unsafe(no_mangle)]
+pub extern "C" fn holmweder_admission(
+    cdb: &[u8],
+    out: &[u8],
+    partition: u64,
+    object: u64,
+    logical: u64,
+    maximum: u64,
+    tag: u32,
+    epoch: u16,
+    start: u64,
+    size: u64,
+    offset: &mut u64,
+) -> u32
+    ensures { Told
+        (place_of (question (command cdb.now out.now (record_of partition object logical maximum tag epoch)) (range_of start size)))
+        result offset.new }
+{
+    holmweder::holmweder_admission(
+        cdb, out, partition, object, logical, maximum, tag, epoch, start, size, offset,
+    )
+}
+
+#[unsafe(no_mangle)]
+pub extern "C" fn holmweder_sense_key(number: u32) -> u32
+    ensures { result ≡ (sense number).key }
+{
+    holmweder::holmweder_sense_key(number)
+}
+
+#[unsafe(no_mangle)]
+pub extern "C" fn holmweder_sense_code(number: u32) -> u32
+    ensures { result ≡ (sense number).code }
+{
+    holmweder::holmweder_sense_code(number)
+}
+
+#[unsafe(no_mangle)]
+pub extern "C" fn holmweder_status(number: u32) -> u32
+    ensures { result ≡ status number }
+{
+    holmweder::holmweder_status(number)
+}
+
+// A command for the engine, from what it is to say. Any `listed` but 0 is yes.
+#[unsafe(no_mangle)]
+pub extern "C" fn holmweder_write(
+    action: u64,
+    partition: u64,
+    object: u64,
+    start: u64,
+    size: u64,
+    listed: u32,
+    offsets: &[u64],
+    lengths: &[u64],
+    capabilities: &[u8],
+    cdb: &mut [u8],
+    segment: &mut [u8],
+    segment_length: &mut u64,
+) -> u32
+    ensures { wrote result segment_length.new cdb.new segment.new
+        ≡ written (request action partition object start size (not (eqb listed 0)) offsets.now lengths.now capabilities.now)
+        cdb.old segment.old }
+{
+    holmweder::holmweder_write(
+        action,
+        partition,
+        object,
+        start,
+        size,
+        listed,
+        offsets,
+        lengths,
+        capabilities,
+        cdb,
+        segment,
+        segment_length,
+    )
+}
