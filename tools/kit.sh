@@ -1,4 +1,3 @@
-# To be sourced: where the toolchain has its compiler, linker, loader and emulator for this processor.
-kit=${RATTLE_HOME:-$(dirname "$(dirname "$(readlink -f "$(command -v rt)")")")}
-own=$kit/on/$(uname -m)
-tools=$own/toolchain
+# To be sourced: where the toolchain has its compiler, linker and loader.
+kit=$(dirname "$(dirname "$(readlink -f "$(command -v rt)")")")
+tools=$kit/toolchain

@@ -24,7 +24,7 @@ use Rattle.header.specs.declared.Reading.TheVariants.{Readable}
 use Rattle.header.specs.Reading.{said_by, reading_of}
 use Rattle.header.proofs.Rows.{Says, says}
 use Rattle.capability.specs.Sought.{admits_in}
-use Rattle.capability.proofs.Meaning.{saidIn, soughtIn, fits_is, admits_is, firstBy, part_is}
+use Rattle.capability.proofs.Meaning.{said_in, sought_in, fits_is, admits_is, first_by, part_is}
 use Rattle.admission.specs.Allowed.{pieces_at, pieces_in, noted, inside_one, each_inside, some_of, admitted_in}
 
 -- the bytes of capabilities
@@ -33,27 +33,27 @@ bytes_of ks = map (λ (k : Held). k.bytes) ks
 
 module _ (v : Verb) (c : Command) where
   -- ---- what is noted of them
-  any_noted : (ks : List Held) → any (fits v c) ks ≡ some_of (noted (soughtIn v c) (bytes_of ks))
+  any_noted : (ks : List Held) → any (fits v c) ks ≡ some_of (noted (sought_in v c) (bytes_of ks))
   unfolding any noted
   any_noted [] = refl
   any_noted (k ∷ ks) = go (fits v c k) (fits_is v c k) (any_noted ks)
     where
-      go : (b : Bool) → b ≡ meets (soughtIn v c) k.bytes → any (fits v c) ks ≡ some_of (noted (soughtIn v c) (bytes_of ks))
+      go : (b : Bool) → b ≡ meets (sought_in v c) k.bytes → any (fits v c) ks ≡ some_of (noted (sought_in v c) (bytes_of ks))
           → (b || any (fits v c) ks) ≡ some_of
-          (cond (meets (soughtIn v c) k.bytes) (allowance k.bytes ∷ noted (soughtIn v c) (bytes_of ks))
-          (noted (soughtIn v c) (bytes_of ks)))
+          (cond (meets (sought_in v c) k.bytes) (allowance k.bytes ∷ noted (sought_in v c) (bytes_of ks))
+          (noted (sought_in v c) (bytes_of ks)))
       go true e r = rw (← e)
       go false e r = rw (← e) r
 
-  one_noted : (g : Range) (ks : List Held) → is_some (firstBy v c g ks) ≡ inside_one (noted (soughtIn v c) (bytes_of ks)) g
+  one_noted : (g : Range) (ks : List Held) → is_some (first_by v c g ks) ≡ inside_one (noted (sought_in v c) (bytes_of ks)) g
   unfolding any noted first_of admits_in
   one_noted g [] = refl
-  one_noted g (k ∷ ks) = go (meets (soughtIn v c) k.bytes) refl (inside g k.bytes) refl (one_noted g ks)
+  one_noted g (k ∷ ks) = go (meets (sought_in v c) k.bytes) refl (inside g k.bytes) refl (one_noted g ks)
     where
-      go : (m : Bool) → meets (soughtIn v c) k.bytes ≡ m → (i : Bool) → inside g k.bytes ≡ i
-          → is_some (firstBy v c g ks) ≡ inside_one (noted (soughtIn v c) (bytes_of ks)) g
-          → is_some (cond (admits v c g k) (some k) (firstBy v c g ks))
-          ≡ inside_one (cond (meets (soughtIn v c) k.bytes) (allowance k.bytes ∷ noted (soughtIn v c) (bytes_of ks)) (noted (soughtIn v c) (bytes_of ks))) g
+      go : (m : Bool) → meets (sought_in v c) k.bytes ≡ m → (i : Bool) → inside g k.bytes ≡ i
+          → is_some (first_by v c g ks) ≡ inside_one (noted (sought_in v c) (bytes_of ks)) g
+          → is_some (cond (admits v c g k) (some k) (first_by v c g ks))
+          ≡ inside_one (cond (meets (sought_in v c) k.bytes) (allowance k.bytes ∷ noted (sought_in v c) (bytes_of ks)) (noted (sought_in v c) (bytes_of ks))) g
       go true e true f r = rw (admits_is v c g k, e, inside_is k.bytes g, f)
       go true e false f r = rw (admits_is v c g k, e, inside_is k.bytes g, f) r
       go false e i f r = rw (admits_is v c g k, e) r
@@ -67,32 +67,32 @@ module _ (v : Verb) (c : Command) where
   bytes_spot Absent = refl
   bytes_spot (At d) = bytes_places (places_from (d.size / 104) d.at)
 
-  bytes_is : bytes_of (capabilities c) ≡ pieces_in c.cdb (segment c) (saidIn v c)
+  bytes_is : bytes_of (capabilities c) ≡ pieces_in c.cdb (segment c) (said_in v c)
   unfolding capabilities solo said_by
   bytes_is = ap (λ (ks : List Bytes). part 80 104 c.cdb ∷ ks) (bytes_spot (found c).extension)
 
   -- ---- the command as a whole
   abbrev allowances : List Range
-  allowances = noted (soughtIn v c) (pieces_in c.cdb (segment c) (saidIn v c))
+  allowances = noted (sought_in v c) (pieces_in c.cdb (segment c) (said_in v c))
 
   any_is : any (fits v c) (capabilities c) ≡ some_of allowances
-  any_is = any_noted (capabilities c) ∙ ap (λ (ks : List Bytes). some_of (noted (soughtIn v c) ks)) bytes_is
+  any_is = any_noted (capabilities c) ∙ ap (λ (ks : List Bytes). some_of (noted (sought_in v c) ks)) bytes_is
 
   one_is : (g : Range) → is_some (admitting v c g) ≡ inside_one allowances g
   unfolding admitting
-  one_is g = one_noted g (capabilities c) ∙ ap (λ (ks : List Bytes). inside_one (noted (soughtIn v c) ks) g) bytes_is
+  one_is g = one_noted g (capabilities c) ∙ ap (λ (ks : List Bytes). inside_one (noted (sought_in v c) ks) g) bytes_is
 
   each_is : (gs : List Range) → all (λ (g : Range). is_some (admitting v c g)) gs ≡ all (inside_one allowances) gs
   unfolding all
   each_is [] = refl
   each_is (g ∷ gs) = rw (one_is g, each_is gs)
 
-  ranges_is : (x : Spot) → all (inside_one allowances) (ranges_of x c) ≡ each_inside allowances (segment c) (saidIn v c) x
+  ranges_is : (x : Spot) → all (inside_one allowances) (ranges_of x c) ≡ each_inside allowances (segment c) (said_in v c) x
   unfolding all sole_range said_by
   ranges_is Absent = and-true _
   ranges_is (At d) = refl
 
-  pub admitted_is : admitted v c ≡ admitted_in c.cdb (segment c) (saidIn v c) c.on
+  pub admitted_is : admitted v c ≡ admitted_in c.cdb (segment c) (said_in v c) c.on
   unfolding admitted admitted_in ranges said_by
   admitted_is = rw (any_is, each_is (ranges_of (found c).list c), ranges_is (found c).list)
 

@@ -120,6 +120,7 @@ fn all_inside(segment: &[u8], part: Part, starts: &[u64], sizes: &[u64], n: usiz
 }
 
 // Whether a command that was read is let in: some capability matches, and each of its ranges lies inside one that does.
+#[tactic(auto, using(crate::proofs::Deciding::nobody))]
 fn is_let_in(cdb: &[u8], segment: &[u8], said: Parsed, on: Record) -> bool
     requires { Reads cdb.now segment.now said }
     ensures { result ≡ admitted_in cdb.now segment.now said on }

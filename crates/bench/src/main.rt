@@ -99,9 +99,13 @@ fn fill(rt: &HostRuntime, space: &mut [u8]) -> io::Result<usize>
     Ok(done)
 }
 
+fn answer_input(rt: &HostRuntime, space: &mut [u8]) -> io::Result<()> {
+    let size = fill(rt, space)?;
+    print_reply(rt, reply_to(&space[..size]))
+}
+
 // A sound file has 25,654 bytes at most. One that fills the buffer goes on behind its slice, whatever was left unread.
 fn main(rt: HostRuntime) -> io::Result<()> {
     let mut space = [0u8; 65536];
-    let size = fill(&rt, &mut space)?;
-    print_reply(&rt, reply_to(&space[..size]))
+    answer_input(&rt, &mut space)
 }

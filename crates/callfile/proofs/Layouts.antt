@@ -130,3 +130,9 @@ pub record_read : (s : Bytes) (p o l m t e : ℕ) → p ≡ field 0 8 s → o �
     → record { partition = p; object = o; length = l; maximum = m; tag = t; epoch = e } ≡ record_of s
 unfolding record_of
 record_read s p o l m t e a b c d g h = rw (a, b, c, d, g, h)
+
+-- what `callfile::section_at` meets its contract by
+pub ruleset sections = (no_count, over, ends_early, whole)
+
+-- what `callfile::layout_of` meets its contract by
+pub ruleset layouts = (no_cdb, no_out, no_record, no_slice, other_size, goes_on, sound, inside)

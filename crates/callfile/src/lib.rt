@@ -31,6 +31,7 @@ pub enum Layout {
 }
 
 // Counts are compared with what is left of the file, so that no sum can wrap.
+#[tactic(auto, using(crate::proofs::Layouts::sections))]
 fn section_at(file: &[u8], at: usize, most: usize) -> Section
     requires { at ≤ length file.now }
     ensures { result ≡ section_at file.now at most }
@@ -52,6 +53,7 @@ fn section_at(file: &[u8], at: usize, most: usize) -> Section
     })
 }
 
+#[tactic(auto, using(crate::proofs::Layouts::layouts))]
 pub fn layout_of(file: &[u8]) -> Layout
     ensures { result ≡ layout_of file.now }
 {

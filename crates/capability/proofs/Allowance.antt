@@ -52,3 +52,6 @@ module _ (k : Bytes) where
 
   pub inside_told : (g w : Range) → w ≡ allowance k → (t : Bool) → t ≡ inside_of g w → t ≡ inside g k
   inside_told g w e t q = q ∙ ap (λ (x : Range). inside_of g x) e ∙ inside_is g
+
+-- what `capability::is_allowed` meets its contract by
+pub ruleset allowing = (starts_before, everything, some_of_it)

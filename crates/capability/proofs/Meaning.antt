@@ -25,23 +25,23 @@ use Rattle.capability.specs.Sought.{sought_by, admits_in, Reads}
 
 module _ (v : Verb) (c : Command) where
   -- what is said by a command of this verb, once it is read
-  abbrev pub saidIn : Parsed
-  saidIn = said_by v c.cdb (found c)
+  abbrev pub said_in : Parsed
+  said_in = said_by v c.cdb (found c)
 
-  abbrev pub soughtIn : Sought
-  soughtIn = sought_by saidIn c.on
+  abbrev pub sought_in : Sought
+  sought_in = sought_by said_in c.on
 
-  pub fits_is : (k : Held) → fits v c k ≡ meets soughtIn k.bytes
+  pub fits_is : (k : Held) → fits v c k ≡ meets sought_in k.bytes
   unfolding fits meets said_by matches tagged current
   fits_is k = refl
 
-  pub admits_is : (g : Range) (k : Held) → admits v c g k ≡ admits_in soughtIn g k.bytes
+  pub admits_is : (g : Range) (k : Held) → admits v c g k ≡ admits_in sought_in g k.bytes
   unfolding admits admits_in
   admits_is g k = ap (λ (b : Bool). b && inside g k.bytes) (fits_is k)
 
   -- the first that admits a range, of some capabilities in their order
-  abbrev pub firstBy : Range → List Held → Option Held
-  firstBy g ks = first_of (map (λ (k : Held). test k (admits v c g k)) ks)
+  abbrev pub first_by : Range → List Held → Option Held
+  first_by g ks = first_of (map (λ (k : Held). test k (admits v c g k)) ks)
 
 -- ---- over a reading
 module _ (c : Command) (p : Parsed) (s : Says c p) where

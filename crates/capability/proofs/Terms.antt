@@ -43,7 +43,7 @@ module _ (k : Bytes) where
     unfolding tagged
     no_tag z = rw (← e, z)
 
-    pub a_tag : (t ≡ 0 → ⊥) → eqb t on.tag ≡ tagged on k
+    pub a_tag : (t ≡ 0 → ⊥) → tagged on k ≡ eqb t on.tag
     unfolding tagged
     a_tag n = rw (← e, ne_eqb _ _ n)
 
@@ -56,7 +56,7 @@ module _ (k : Bytes) where
     unfolding current
     not_booted n z = rw (← e, ne_eqb _ _ n, eq-eqb _ _ z)
 
-    pub an_epoch : (t ≡ 0 → ⊥) → (on.epoch ≡ 0 → ⊥) → eqb t on.epoch ≡ current on k
+    pub an_epoch : (t ≡ 0 → ⊥) → (on.epoch ≡ 0 → ⊥) → current on k ≡ eqb t on.epoch
     unfolding current
     an_epoch n m = rw (← e, ne_eqb _ _ n, ne_eqb _ _ m)
 
@@ -82,3 +82,12 @@ module _ (k : Bytes) where
         → (t : Bool) → t ≡ current on k → t ≡ matches v p o on k
     unfolding matches
     all_but_epoch e1 e2 e3 e4 t q = rw (← e1, ← e2, ← e3, ← e4) q
+
+-- what `capability::names_object` meets its contract by
+pub ruleset naming = (no_partition, no_object, other_partition, this_object)
+
+-- what `capability::has_tag` meets its contract by
+pub ruleset tagging = (no_tag, a_tag)
+
+-- what `capability::is_current` meets its contract by
+pub ruleset booting = (no_epoch, not_booted, an_epoch)

@@ -44,6 +44,7 @@ fn is_for_user_object(k: &[u8]) -> bool
     k[55] / 16 == 1
 }
 
+#[tactic(auto, using(crate::proofs::Terms::naming))]
 fn names_object(k: &[u8], partition: u64, object: u64) -> bool
     requires { 104 ≤ length k.now }
     ensures { result ≡ names partition object k.now }
@@ -62,6 +63,7 @@ fn names_object(k: &[u8], partition: u64, object: u64) -> bool
     allowed_object == object
 }
 
+#[tactic(auto, using(crate::proofs::Terms::tagging))]
 fn has_tag(k: &[u8], by: Sought) -> bool
     requires { 104 ≤ length k.now }
     ensures { result ≡ tagged (holder by) k.now }
@@ -73,6 +75,7 @@ fn has_tag(k: &[u8], by: Sought) -> bool
     tag == by.tag
 }
 
+#[tactic(auto, using(crate::proofs::Terms::booting))]
 fn is_current(k: &[u8], by: Sought) -> bool
     requires { 104 ≤ length k.now }
     ensures { result ≡ current (holder by) k.now }
@@ -146,6 +149,7 @@ pub fn allowance_of(k: &[u8]) -> Range
 }
 
 // Whether a range lies inside an allowance. Ends are compared by what is left, so that no sum can wrap.
+#[tactic(auto, using(crate::proofs::Allowance::allowing))]
 pub fn is_allowed(g: Range, w: Range) -> bool
     ensures { result ≡ inside_of g w }
 {

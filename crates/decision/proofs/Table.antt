@@ -295,3 +295,6 @@ module _ (c : Command) (m : Room) (p : Parsed) (l : LetIn c m p) where
 
   pub part_punches : p.verb ≡ Punch → (r : Decision) → r ≡ punches (take (p.segment - 0) c.out) p c.on.length → r ≡ decision_of c m
   part_punches v r e = e ∙ ap (λ (s : Bytes). punches s p c.on.length) (part_is c m p o) ∙ punch_decided v
+
+-- what `decision::decide_readable` meets its contract by, but for row 10
+pub ruleset opened = (part_lists, start_refused, starts_right, not_let_in, let_in)

@@ -188,6 +188,7 @@ fn has_fault(s: &[u8], said: Parsed) -> bool
 }
 
 // Rows 9 to 14, of a command that can be read.
+#[tactic(auto, using(crate::proofs::Table::opened))]
 fn decide_readable(
     cdb: &[u8],
     out: &[u8],
@@ -213,6 +214,7 @@ fn decide_readable(
 }
 
 // Which row refuses the call, the first that does, or what is to be carried out.
+#[tactic(auto, using(crate::proofs::Table::slice_over, crate::proofs::Table::length_over))]
 pub fn decide(cdb: &[u8], out: &[u8], on: Record, slice: usize, input: usize) -> Decision
     ensures { result ≡ decision_of (command cdb.now out.now on) (room slice input) }
 {

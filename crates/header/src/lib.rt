@@ -42,6 +42,7 @@ enum Named {
 }
 
 // Row 2.
+#[tactic(auto, unfolding(rules::specs::Header::cdb_malformed))]
 fn is_malformed(cdb: &[u8]) -> bool
     ensures { result ≡ cdb_malformed cdb.now }
 {

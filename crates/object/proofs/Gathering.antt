@@ -89,7 +89,12 @@ module _ (n : ℕ) (slice : Bytes) (fits : n ≤ length slice) (s : Bytes) where
 
     begins : (ltb n g.start ≡ false) × (any (λ (h : Range). ltb n h.start) (entries_from (left - 1) s (place + 16)) ≡ false)
     unfolding any
-    begins = or_false_parts (ltb n g.start) _ (subst (λ (m : ℕ). any (λ (h : Range). ltb m h.start) (g ∷ entries_from (left - 1) s (place + 16)) ≡ false) object_length (rw opened at k.begun))
+    begins =
+        or_false_parts (ltb n g.start) _
+        (subst
+        (λ (m : ℕ). any (λ (h : Range). ltb m h.start) (g ∷ entries_from (left - 1) s (place + 16)) ≡ false)
+        object_length
+        (rw opened at k.begun))
 
     turn_begins : g.start ≤ n
     turn_begins = ltb-false n g.start begins.0

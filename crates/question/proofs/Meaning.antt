@@ -24,7 +24,7 @@ use Rattle.header.specs.Reading.{said_by, reading_of}
 use Rattle.header.proofs.Rows.{Says, says, unreadable}
 use Rattle.segment.specs.Lying.{ExtensionAt}
 use Rattle.capability.specs.Sought.{sought_by, admits_in}
-use Rattle.capability.proofs.Meaning.{saidIn, soughtIn, admits_is, firstBy, says_reads, part_is}
+use Rattle.capability.proofs.Meaning.{said_in, sought_in, admits_is, first_by, says_reads, part_is}
 use Rattle.question.specs.declared.Place.{Place}
 use Rattle.question.specs.declared.Place.TheVariants.{Nowhere, InCdb, InOut}
 use Rattle.question.specs.Places.{place_of, first_at, first_from, first_spot, first_in}
@@ -32,29 +32,29 @@ use Rattle.question.specs.Places.{place_of, first_at, first_from, first_spot, fi
 -- ---- the first that admits a range, of some capabilities in their order
 module _ (v : Verb) (c : Command) where
   -- one more in front: k stands at w
-  chosen : (g : Range) (k : Held) (ks : List Held) (w : Place) → place_of (some k) ≡ w → (rest : Place) → place_of (firstBy v c g ks) ≡ rest
-      → place_of (firstBy v c g (k ∷ ks)) ≡ cond (admits_in (soughtIn v c) g k.bytes) w rest
+  chosen : (g : Range) (k : Held) (ks : List Held) (w : Place) → place_of (some k) ≡ w → (rest : Place) → place_of (first_by v c g ks) ≡ rest
+      → place_of (first_by v c g (k ∷ ks)) ≡ cond (admits_in (sought_in v c) g k.bytes) w rest
   unfolding first_of
   chosen g k ks w is rest r = go (admits v c g k) (admits_is v c g k)
     where
-      go : (b : Bool) → b ≡ admits_in (soughtIn v c) g k.bytes
-          → place_of (cond b (some k) (firstBy v c g ks)) ≡ cond (admits_in (soughtIn v c) g k.bytes) w rest
+      go : (b : Bool) → b ≡ admits_in (sought_in v c) g k.bytes
+          → place_of (cond b (some k) (first_by v c g ks)) ≡ cond (admits_in (sought_in v c) g k.bytes) w rest
       go true e = rw (← e) is
       go false e = rw (← e) r
 
   -- the extension's
-  first_places : (g : Range) (ps : List ℕ) → place_of (firstBy v c g (map (extension c) ps)) ≡ first_at (admits_in (soughtIn v c) g) (segment c) ps
+  first_places : (g : Range) (ps : List ℕ) → place_of (first_by v c g (map (extension c) ps)) ≡ first_at (admits_in (sought_in v c) g) (segment c) ps
   unfolding first_of first_at extension
   first_places g [] = refl
   first_places g (a ∷ ps) = chosen g (extension c a) (map (extension c) ps) (InOut a) refl _ (first_places g ps)
 
-  first_spot_lem : (g : Range) (x : Spot) → place_of (firstBy v c g (extensions_of x c)) ≡ first_spot (admits_in (soughtIn v c) g) (segment c) x
+  first_spot_lem : (g : Range) (x : Spot) → place_of (first_by v c g (extensions_of x c)) ≡ first_spot (admits_in (sought_in v c) g) (segment c) x
   unfolding first_of first_from
   first_spot_lem g Absent = refl
   first_spot_lem g (At d) = first_places g (places_from (d.size / 104) d.at)
 
   -- the command's
-  admitting_is : (g : Range) → place_of (admitting v c g) ≡ first_in c.cdb (segment c) (saidIn v c) c.on g
+  admitting_is : (g : Range) → place_of (admitting v c g) ≡ first_in c.cdb (segment c) (said_in v c) c.on g
   unfolding admitting capabilities first_in solo said_by
   admitting_is g = chosen g (solo c) (extensions_of (found c).extension c) InCdb refl _ (first_spot_lem g (found c).extension)
 

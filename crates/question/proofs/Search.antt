@@ -52,3 +52,6 @@ module _ (w : Sought) (g : Range) (k : Bytes) where
   pub no_match : (m : Bool) → m ≡ meets w k → m ≡ false → false ≡ admits_in w g k
   unfolding admits_in
   no_match m em tm = rw (← em, tm)
+
+-- what `question::first_extension` meets its contract by
+pub ruleset searching = (first_hit, first_on, first_none, both_pass, range_outside, no_match)

@@ -23,6 +23,7 @@ pub enum Place {
 
 // The first of the extension's capabilities that admits a range. The range is tested first: of several capabilities mostly one
 // has it inside.
+#[tactic(auto, using(crate::proofs::Search::searching), unfolding(crate::specs::Places::first_from))]
 fn first_extension(segment: &[u8], part: Part, by: Sought, g: Range) -> Place
     requires { ExtensionIn segment.now part }
     ensures { result ≡ first_from (admits_in by g) segment.now part }

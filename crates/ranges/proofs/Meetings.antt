@@ -43,3 +43,6 @@ module _ (near far : Range) (l : near.start ≤ far.start) (n : far.size ≡ 0 �
 pub asks_all : Asks overlapping (λ (g : Range) (gs : List Range). any (meet g) gs)
 unfolding overlapping
 asks_all = record { none = refl; more = λ (g : Range) (gs : List Range). refl }
+
+-- what `ranges::share` meets its contract by
+pub ruleset meeting = (empty_left, empty_right, meets_later, meets_earlier)

@@ -91,3 +91,6 @@ module _ (s : Bytes) (start n reached limit : ℕ) where
   pub reaching_done : (from left top : ℕ) → Reaching from left top → left ≤ 0 → Within top ≡ within limit (reach reached (entries_from n s start))
   unfolding reach
   reaching_done from left top i h = rw (rest_none reach s start n reached from left top i.over h) (within_is limit top i.below)
+
+-- what `ranges::reach_more` meets its contract by
+pub ruleset lifting = (lifts_nothing, lifts_past, lifts_none, lifts_to)

@@ -46,6 +46,7 @@ pub fn sum_of(lengths: &[u64], n: usize) -> Sum
 }
 
 // An end can pass 2^64, so the distance of the starts is compared with the size of the range that starts first.
+#[tactic(auto, using(crate::proofs::Meetings::meeting))]
 fn share(g: Range, h: Range) -> bool
     ensures { result ≡ meet g h }
 {
@@ -202,6 +203,7 @@ pub enum Reach {
 }
 
 // The reach with one range more. An end is compared by what the limit leaves behind the start, so that no sum can wrap.
+#[tactic(auto, using(crate::proofs::Reaches::lifting))]
 pub fn reach_more(reached: usize, range: Range, limit: usize) -> Reach
     requires { reached ≤ limit }
     ensures { result ≡ within limit (lifted reached range) }

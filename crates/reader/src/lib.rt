@@ -1,6 +1,5 @@
-// A reader that holds a lent segment together with a position in it, and thin functions over it. Each function over the
-// struct is proved by hand, so none has a branch, a match or a loop: those are in the functions over a plain slice and a
-// position, which take their steps from `walk`.
+// A reader that holds a lent segment together with a position in it, and thin functions over it. No function over the struct has a
+// branch, a match or a loop: those are in the functions over a plain slice and a position, which take their steps from `segment`.
 
 #![tactic(auto)]
 

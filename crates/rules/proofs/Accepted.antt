@@ -52,8 +52,8 @@ under_both : (l a b : Bool) → (l && a && b) ≡ false → l ≡ true → (a &&
 under_both true a b e h = e
 under_both false a b e h = let z : ◌≡◌ {A = ℕ} 0 1 = cc in absurd (omega arith)
 
-pub accepted : (q : Request) (cdbRoom segmentRoom : ℕ) → first_of (refusals q cdbRoom segmentRoom) ≡ none
-    → Accepted q × (236 ≤ cdbRoom) × (length (segment_for q) ≤ segmentRoom)
+pub accepted : (q : Request) (cdb_room segment_room : ℕ) → first_of (refusals q cdb_room segment_room) ≡ none
+    → Accepted q × (236 ≤ cdb_room) × (length (segment_for q) ≤ segment_room)
 unfolding refusals
 accepted q c s e =
     let action = skips _ _ e in

@@ -1,5 +1,5 @@
 -- The record, slice, capability and commands that the examples share (document 01, "Marked examples"). The commands are written by the host's writer.
-use Rattle.std.specs.Prelude.{ℕ, Bool, true, false, List, [], ◌∷◌, ◌++◌, length, replicate}
+use Rattle.std.specs.Prelude.{ℕ, Bool, true, false, List, [], ◌∷◌, ◌++◌, replicate}
 use Prim.Native.Char.{code}
 use Prim.Native.String.{String}
 use Rattle.rules.specs.declared.Record.{Record}

@@ -74,8 +74,8 @@ cdb_for q =
     ++ zeros 52
 
 -- what is refused, in order
-unfoldable pub refusals : Request → (cdbRoom segmentRoom : ℕ) → List (Test ℕ)
-refusals q cdbRoom segmentRoom =
+unfoldable pub refusals : Request → (cdb_room segment_room : ℕ) → List (Test ℕ)
+refusals q cdb_room segment_room =
     -- unknown action
     test 16 (not (is_some (verb_of q.action)))
     -- capability bytes empty, over 936 or no multiple of 104
@@ -91,7 +91,7 @@ refusals q cdbRoom segmentRoom =
     -- overlap on WRITE
     ∷ test 16 (q.listed && asks (verb_of q.action) is_write && overlapping (entries q))
     -- either buffer too short
-    ∷ test 17 (ltb cdbRoom 236 || ltb segmentRoom (length (segment_for q)))
+    ∷ test 17 (ltb cdb_room 236 || ltb segment_room (length (segment_for q)))
     ∷ []
 
 -- the number, the segment's length, and what both buffers hold afterwards

@@ -37,3 +37,6 @@ module _ (s : Bytes) (at : ℕ) where
     pub unknown : (k ≡ 0x0000 → ⊥) → (k ≡ 0x0001 → ⊥) → (k ≡ 0xFFEE → ⊥) → Fault Unknown ≡ here s at
     unfolding here kind_at
     unknown x y z = rw (le-ltb _ _ long, ← e, ne_eqb _ _ x, ne_eqb _ _ y, ne_eqb _ _ z)
+
+-- what `segment::standing_at` meets its contract by
+pub ruleset standings = (blank_end, remainder, no_more, a_list, an_extension, unknown)

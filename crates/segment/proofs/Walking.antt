@@ -107,3 +107,6 @@ onwards s at f r e a g q = cases (here s at) refl (sym e ∙ q)
     cases (Extensions d) w p =
         let l = (extension_here s at d w).0 in
         (omega (arith, further f.extension at _ a _ g p, beyond s at), omega (arith, further f.extension at _ a _ g p, next_is l, l.inside))
+
+-- what `segment::walk_over` meets its contract by
+pub ruleset walking = (ends, faults, list_again, extension_again, list_on, extension_on, list_ends, extension_ends, stops, goes_on, onwards)

@@ -96,6 +96,7 @@ fn extensions_at(s: &[u8], at: usize) -> Here
 }
 
 // What stands at a position, also at one past the segment's end, where nothing is left.
+#[tactic(auto, using(crate::proofs::Standing::standings, rules::proofs::Segment::end_here))]
 pub fn standing_at(s: &[u8], at: usize) -> Here
     ensures { result ≡ here s.now at }
 {
@@ -177,6 +178,7 @@ pub fn step_from(s: &[u8], at: usize, found: Found) -> Step
 
 // What the whole segment has, from its first descriptor on: a segment of fewer than 40 bytes has none.
 // It keeps list and extension in variables of their own. Steps that hand on all that was found would be copied at each descriptor.
+#[tactic(auto, using(crate::proofs::Walking::walking), unfolding(rules::specs::Segment::walk))]
 pub fn walk_over(s: &[u8]) -> Walk
     ensures { result ≡ walk s.now }
 {

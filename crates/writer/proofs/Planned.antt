@@ -137,3 +137,6 @@ module _ (q : Request) where
 
   pub no_write : {t : ℕ} → Sound t → (q.action ≡ WRITE → ⊥) → Length t ≡ planned q
   no_write k w = passes k (rw (not_write q.action w))
+
+-- what `writer::plan_of` meets its contract by
+pub ruleset plans = (unlisted, unequal, too_long, cleared, punched, started, sum_too_large, shared)

@@ -26,7 +26,8 @@ length_head : (a : ℕ) → length (segment_head a) ≡ 40
 unfolding segment_head
 length_head a = simp (length-append, length_to_be)
 
-pub head_laid : (a : ℕ) (s : Bytes) {t u : Bytes} → a < 65536 → t ≡ laid 0 (to_be 4 (0x01000000 + a)) s → u ≡ laid 4 (zeros 36) t → u ≡ laid 0 (segment_head a) s
+pub head_laid : (a : ℕ) (s : Bytes) {t u : Bytes} → a < 65536 → t ≡ laid 0 (to_be 4 (0x01000000 + a)) s → u ≡ laid 4 (zeros 36) t
+    → u ≡ laid 0 (segment_head a) s
 unfolding segment_head
 head_laid a s h first second =
     (next_piece (zeros 36) (first_piece s (to_be 4 (0x01000000 + a)) (length_to_be 4 (0x01000000 + a)) first zero-le) refl refl second).is

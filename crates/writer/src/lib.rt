@@ -190,6 +190,7 @@ fn sized(capabilities: usize) -> bool
     capabilities % 104 == 0
 }
 
+#[tactic(auto, using(crate::proofs::Planned::plans))]
 fn plan_of(
     action: u64,
     start: u64,

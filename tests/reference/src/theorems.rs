@@ -91,7 +91,7 @@ impl Theorem {
         } = self;
         format!(
             "-- {name}: {remark}\n\
-             {name} : _≡_ {{A = {kind}}} ({books}) {ours}\n\
+             {name} : ◌≡◌ {{A = {kind}}} ({books}) {ours}\n\
              unfolding seen{given}\n\
              {name} = refl\n\n"
         )

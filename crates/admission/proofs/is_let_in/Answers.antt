@@ -1,13 +1,8 @@
 -- `admission::is_let_in` meets its contract: nobody matches, or each range lies inside what somebody allows.
 use borrow.Author.Rules.{rules}
 use Rattle.segment.proofs.Lying.{lies}
-use Rattle.admission.proofs.Deciding.{noted_fits, nobody, sole_let_in, list_let_in}
+use Rattle.admission.proofs.Deciding.{noted_fits, sole_let_in, list_let_in}
 use Rattle.admission.proofs.is_let_in.Goals as goal
-
-pub returns-then-n-eq0 : goal.returns-then-n-eq0
-returns-then-n-eq0 c =
-    nobody _ _ _ _ c.requires _ _ _ _ _
-    c.note_all-n.ensures c.if-n-eq0.true
 
 pub lies_inside-requires : goal.lies_inside-requires
 lies_inside-requires c =
@@ -31,12 +26,12 @@ pub returns-in-Absent : goal.returns-in-Absent
 returns-in-Absent c =
     sole_let_in _ _ _ _ c.requires
     _ _ _ _ _ c.note_all-n.ensures
-    c.if-n-eq0.false c.in-Absent.is _
+    (search rules) c.in-Absent.is _
     c.lies_inside.ensures
 
 pub returns-in-At : goal.returns-in-At
 returns-in-At c =
     list_let_in _ _ _ _ c.requires
     _ _ _ _ _ c.note_all-n.ensures
-    c.if-n-eq0.false _ c.in-At.is _
+    (search rules) _ c.in-At.is _
     c.all_inside.ensures

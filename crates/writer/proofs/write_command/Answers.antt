@@ -1,5 +1,6 @@
 -- `writer::write_command` meets its contract.
 use native.Mathlib.Omega.{arith}
+use borrow.Author.Rules.{rules}
 use Rattle.rules.proofs.Accepted.{one_given, fits_field}
 use Rattle.writer.proofs.Whole.{ready, acceptable, list_fits}
 use Rattle.writer.proofs.Whole.{unknown, unsized, unplanned, short_cdb, short_segment, carried_out}
@@ -19,35 +20,61 @@ returns-in_default c =
 
 pub segment_size-need-requires : goal.segment_size-need-requires
 segment_size-need-requires c =
-    let a = acceptable (ready c.known.ensures c.if-not-known.false c.sized.ensures c.if-not-sized.false (c.plan_of.ensures c.args.partition c.args.object c.args.capabilities.now) c.in-Length.is) in
+    let k =
+    ready c.known.ensures c.if-not-known.false c.sized.ensures c.if-not-sized.false
+    (c.plan_of.ensures c.args.partition c.args.object c.args.capabilities.now) c.in-Length.is in
+    let a = acceptable k in
     (a.few, a.limited)
 
 pub returns-then-cdb-lt236 : goal.returns-then-cdb-lt236
 returns-then-cdb-lt236 c =
-    short_cdb _ _ _ (ready c.known.ensures c.if-not-known.false c.sized.ensures c.if-not-sized.false (c.plan_of.ensures c.args.partition c.args.object c.args.capabilities.now) c.in-Length.is)
+    let k =
+    ready c.known.ensures c.if-not-known.false c.sized.ensures c.if-not-sized.false
+    (c.plan_of.ensures c.args.partition c.args.object c.args.capabilities.now) c.in-Length.is in
+    short_cdb _ _ _ k
     c.if-cdb-lt236.true c.answer-then-cdb-lt236.ensures
 
 pub returns-then-segment-need : goal.returns-then-segment-need
 returns-then-segment-need c =
-    short_segment _ _ _ (ready c.known.ensures c.if-not-known.false c.sized.ensures c.if-not-sized.false (c.plan_of.ensures c.args.partition c.args.object c.args.capabilities.now) c.in-Length.is)
+    let k =
+    ready c.known.ensures c.if-not-known.false c.sized.ensures c.if-not-sized.false
+    (c.plan_of.ensures c.args.partition c.args.object c.args.capabilities.now) c.in-Length.is in
+    short_segment _ _ _ k
     c.segment_size-need.ensures.0 c.if-segment-need.true c.answer-then-segment-need.ensures
 
 pub overflow_cast-action : goal.overflow_cast-action
-overflow_cast-action c = record { fits = fits_field _ (ready c.known.ensures c.if-not-known.false c.sized.ensures c.if-not-sized.false (c.plan_of.ensures c.args.partition c.args.object c.args.capabilities.now) c.in-Length.is).known }
+overflow_cast-action c =
+    let k =
+    ready c.known.ensures c.if-not-known.false c.sized.ensures c.if-not-sized.false
+    (c.plan_of.ensures c.args.partition c.args.object c.args.capabilities.now) c.in-Length.is in
+    record { fits = fits_field _ k.known }
 
 pub overflow_cast-action-2 : goal.overflow_cast-action-2
-overflow_cast-action-2 c = record { fits = fits_field _ (ready c.known.ensures c.if-not-known.false c.sized.ensures c.if-not-sized.false (c.plan_of.ensures c.args.partition c.args.object c.args.capabilities.now) c.in-Length.is).known }
+overflow_cast-action-2 c =
+    let k =
+    ready c.known.ensures c.if-not-known.false c.sized.ensures c.if-not-sized.false
+    (c.plan_of.ensures c.args.partition c.args.object c.args.capabilities.now) c.in-Length.is in
+    record { fits = fits_field _ k.known }
 
 pub put_cdb-requires : goal.put_cdb-requires
-put_cdb-requires c = (c.if-cdb-lt236.false, one_given (acceptable (ready c.known.ensures c.if-not-known.false c.sized.ensures c.if-not-sized.false (c.plan_of.ensures c.args.partition c.args.object c.args.capabilities.now) c.in-Length.is)))
+put_cdb-requires c =
+    let k =
+    ready c.known.ensures c.if-not-known.false c.sized.ensures c.if-not-sized.false
+    (c.plan_of.ensures c.args.partition c.args.object c.args.capabilities.now) c.in-Length.is in
+    ((search rules), one_given (acceptable k))
 
 pub put_segment-requires : goal.put_segment-requires
 put_segment-requires c =
-    let k = (ready c.known.ensures c.if-not-known.false c.sized.ensures c.if-not-sized.false (c.plan_of.ensures c.args.partition c.args.object c.args.capabilities.now) c.in-Length.is) in
-    (list_fits k, (acceptable k).limited, omega (arith, c.segment_size-need.ensures.0, c.if-segment-need.false))
+    let k =
+    ready c.known.ensures c.if-not-known.false c.sized.ensures c.if-not-sized.false
+    (c.plan_of.ensures c.args.partition c.args.object c.args.capabilities.now) c.in-Length.is in
+    (list_fits k, (acceptable k).limited, omega (arith, c.segment_size-need.ensures.0))
 
 pub returns : goal.returns
 returns c =
-    carried_out _ _ _ (ready c.known.ensures c.if-not-known.false c.sized.ensures c.if-not-sized.false (c.plan_of.ensures c.args.partition c.args.object c.args.capabilities.now) c.in-Length.is)
-    c.segment_size-need.ensures.0 c.if-cdb-lt236.false c.if-segment-need.false
+    let k =
+    ready c.known.ensures c.if-not-known.false c.sized.ensures c.if-not-sized.false
+    (c.plan_of.ensures c.args.partition c.args.object c.args.capabilities.now) c.in-Length.is in
+    carried_out _ _ _ k
+    c.segment_size-need.ensures.0 (search rules) (search rules)
     c.put_cdb.ensures c.put_segment.ensures c.answer-2.ensures

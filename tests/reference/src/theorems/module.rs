@@ -10,14 +10,14 @@ const MOST_THEOREMS: usize = 60;
 
 const OPENING: &str = "\
 -- What is looked at of an answer. Every definition of the book is open here.
-use Prim.Native.Nat.{ℕ}
-use mathlib.Core.Option.{Option, none, some}
-use Rattle·rules·specs.specs.declared.Record.{Record}
-use Rattle·rules·specs.specs.declared.Refusal.{Refusal}
+use Rattle.std.specs.Prelude.{ℕ}
+use Rattle.std.proofs.Math.Option.{Option, none, some}
+use Rattle.rules.specs.declared.Record.{Record}
+use Rattle.rules.specs.declared.Refusal.{Refusal}
 MODULES
-use Rattle·rules·specs.specs.Bytes.{Bytes}
-use Rattle·rules·specs.specs.Numbers.{row, number, Sense, sense, status}
-use Rattle·rules·specs.specs.Answer.{Answered}
+use Rattle.rules.specs.Bytes.{Bytes}
+use Rattle.rules.specs.Numbers.{row, number, Sense, sense, status}
+use Rattle.rules.specs.Answer.{Answered}
 
 pub record Seen : Type 0 where
   pub number : ℕ
@@ -32,13 +32,13 @@ unfoldable pub seen : Answered → Seen
 unfolding DEFINITIONS
 seen a =
     record {
-      number = number (a .answer .outcome);
-      status = status (number (a .answer .outcome));
-      sense = sense (number (a .answer .outcome));
-      count = a .answer .count;
-      next = a .answer .next;
-      slice = a .slice;
-      input = a .input;
+      number = number a.answer.outcome;
+      status = status (number a.answer.outcome);
+      sense = sense (number a.answer.outcome);
+      count = a.answer.count;
+      next = a.answer.next;
+      slice = a.slice;
+      input = a.input;
     }
 
 abbrev pub refusing : Option Refusal → ℕ
@@ -47,32 +47,28 @@ refusing (some r) = row r
 ";
 
 const HEAD: &str = "\
-use Prim.Native.Nat.{ℕ}
-use mathlib.Core.Path.{_≡_, refl}
-use mathlib.Core.Option.{Option, none, some}
-use mathlib.Core.Bool.{true, false}
-use mathlib.Core.List.{List, [], _∷_}
-use lib.ListN.{replicate}
-use Rattle·rules·specs.specs.declared.Cause.the-variants.{Unknown, Over, Padding, Misfit, Past, Repeated, Remainder}
-use Rattle·rules·specs.specs.declared.Spot.the-variants.{Absent, At}
-use Rattle·rules·specs.specs.declared.Walk.{Walk}
-use Rattle·rules·specs.specs.declared.Walk.the-variants.{Whole, Broken}
-use Rattle·rules·specs.specs.Bytes.{Bytes}
-use Rattle·rules·specs.specs.Command.{Command}
-use Rattle·rules·specs.specs.Segment.{walk}
-use Rattle·rules·specs.specs.Reading.{in_cdb, in_out, Held}
-use Rattle·rules·specs.specs.Admission.{question}
-use Rattle·rules·specs.specs.Rows.{refusal}
-use Rattle·rules·specs.specs.Answer.{answered}
-use Rattle·rules·specs.specs.Writer.{Request, Written, written}
-use Rattle·rules·specs.specs.Against.{Seen, seen, refusing}
+use Rattle.std.specs.Prelude.{ℕ, ◌≡◌, refl, true, false, List, [], ◌∷◌, replicate}
+use Rattle.std.proofs.Math.Option.{Option, none, some}
+use Rattle.rules.specs.declared.Cause.TheVariants.{Unknown, Over, Padding, Misfit, Past, Repeated, Remainder}
+use Rattle.rules.specs.declared.Spot.TheVariants.{Absent, At}
+use Rattle.rules.specs.declared.Walk.{Walk}
+use Rattle.rules.specs.declared.Walk.TheVariants.{Whole, Broken}
+use Rattle.rules.specs.Bytes.{Bytes}
+use Rattle.rules.specs.Command.{Command}
+use Rattle.rules.specs.Segment.{walk}
+use Rattle.rules.specs.Reading.{in_cdb, in_out, Held}
+use Rattle.rules.specs.Admission.{question}
+use Rattle.rules.specs.Rows.{refusal}
+use Rattle.rules.specs.Answer.{answered}
+use Rattle.rules.specs.Writer.{Request, Written, written}
+use Rattle.rules.specs.Against.{Seen, seen, refusing}
 ";
 
 /// The module that opens the book: a theorem that opens its `seen` opens all these definitions.
 pub fn opening(modules: &[&str], definitions: &[String]) -> String {
     let uses: Vec<String> = modules
         .iter()
-        .map(|module| format!("use Rattle·rules·specs.specs.{module}"))
+        .map(|module| format!("use Rattle.rules.specs.{module}"))
         .collect();
     OPENING
         .replace("MODULES", &uses.join("\n"))
