@@ -13,7 +13,7 @@ sound : (c : In-Fits) (p o : ℕ) (k : Bytes)
     → Sound (request c.args.action p o c.args.start c.args.size c.args.listed c.args.offsets.now c.args.lengths.now k) c.in-Fits.total
 sound c p o k = record {
   listed = c.if-not-listed.false;
-  equal = c.if-n-lengths.false;
+  equal = search rules;
   few = search rules;
   clear = c.if-action-eq-CLEAR.false;
   punch = c.if-action-eq-PUNCH.false;
