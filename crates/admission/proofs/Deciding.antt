@@ -1,4 +1,5 @@
 -- The noting's first and last steps: the CDB's capability, then the extension's, if there is one; and the command as a whole.
+use Rattle.std.specs.Prelude.{Option, None, Some}
 use Prim.Native.Nat.{ℕ, zero, suc, ◌+◌, ◌/◌, ◌≤◌}
 use native.Mathlib.Omega.{arith}
 use mathlib.Core.List.{List, [], ◌∷◌, map}
@@ -8,8 +9,6 @@ use lib.ListN.{length, take}
 use Rattle.rules.specs.declared.Record.{Record}
 use Rattle.rules.specs.declared.Range.{Range}
 use Rattle.rules.specs.declared.Part.{Part}
-use Rattle.rules.specs.declared.Spot.{Spot}
-use Rattle.rules.specs.declared.Spot.TheVariants.{Absent, At}
 use Rattle.rules.specs.Bytes.{Bytes, part, all}
 use Rattle.rules.specs.Segment.{places_from, entries_from}
 use Rattle.rules.specs.Writer.{paired}
@@ -23,7 +22,7 @@ use Rattle.admission.proofs.Search.{length_noted, noted_both}
 
 -- ---- what is noted of the whole command
 module _ (cdb s : Bytes) (p : Parsed) (reads : Reads cdb s p) where
-  pub few_extensions : (d : Part) → p.found.extension ≡ At d → d.size / 104 ≤ 8
+  pub few_extensions : (d : Part) → p.found.extension ≡ Some d → d.size / 104 ≤ 8
   few_extensions d e = let l = (lies s _ d reads.extension e).few in omega arith
 
   length_places : (n from : ℕ) → length (places_from n from) ≡ n
@@ -38,15 +37,15 @@ module _ (cdb s : Bytes) (p : Parsed) (reads : Reads cdb s p) where
   nine_at_most : length (pieces_in cdb s p) ≤ 9
   nine_at_most = go p.found.extension reads.extension
     where
-      go : (x : Spot) → ExtensionAt s x → length (part 80 104 cdb ∷ pieces_at s x) ≤ 9
-      go Absent l = omega arith
-      go (At d) l = let e = length_pieces (places_from (d.size / 104) d.at) ∙ length_places (d.size / 104) d.at in omega (arith, e, l.few)
+      go : (x : Option Part) → ExtensionAt s x → length (part 80 104 cdb ∷ pieces_at s x) ≤ 9
+      go None l = omega arith
+      go (Some d) l = let e = length_pieces (places_from (d.size / 104) d.at) ∙ length_places (d.size / 104) d.at in omega (arith, e, l.few)
 
   module _ (on : Record) (w : Sought) (ew : w ≡ sought_by p on) (n : ℕ) (ss₀ zs₀ ss zs : List ℕ) (a : Noted w (part 80 104 cdb ∷ []) 0 ss₀ zs₀ n ss zs) where
-    pub cdb_alone : p.found.extension ≡ Absent → Noted (sought_by p on) (pieces_in cdb s p) 0 ss₀ zs₀ n ss zs
+    pub cdb_alone : p.found.extension ≡ None → Noted (sought_by p on) (pieces_in cdb s p) 0 ss₀ zs₀ n ss zs
     cdb_alone e = subst (λ (x : Sought). Noted x (pieces_in cdb s p) 0 ss₀ zs₀ n ss zs) ew (rw e a)
 
-    module _ (d : Part) (e : p.found.extension ≡ At d) where
+    module _ (d : Part) (e : p.found.extension ≡ Some d) where
       pub with_extension : (r : ℕ) (ss' zs' : List ℕ) → Noted w (pieces_from s (d.size / 104) d.at) n ss zs r ss' zs'
           → Noted (sought_by p on) (pieces_in cdb s p) 0 ss₀ zs₀ r ss' zs'
       with_extension r ss' zs' b =
@@ -84,12 +83,12 @@ module _ (cdb s : Bytes) (p : Parsed) (on : Record) (reads : Reads cdb s p) (n :
         go [] e = absurd (some e)
         go (w ∷ ws) e = refl
 
-    pub sole_let_in : p.found.list ≡ Absent → (t : Bool)
+    pub sole_let_in : p.found.list ≡ None → (t : Bool)
         → t ≡ inside_one (paired (take n ss) (take n zs)) (record { start = p.start; size = p.size }) → t ≡ admitted_in cdb s p on
     unfolding admitted_in
     sole_let_in e t h = rw (somebody, e) (h ∙ ap (λ (ws : List Range). inside_one ws (record { start = p.start; size = p.size })) there)
 
-    pub list_let_in : (d : Part) → p.found.list ≡ At d → (t : Bool)
+    pub list_let_in : (d : Part) → p.found.list ≡ Some d → (t : Bool)
         → t ≡ all (inside_one (paired (take n ss) (take n zs))) (entries_from (d.size / 16) s d.at) → t ≡ admitted_in cdb s p on
     unfolding admitted_in
     list_let_in d e t h = rw (somebody, e) (h ∙ ap (λ (ws : List Range). all (inside_one ws) (entries_from (d.size / 16) s d.at)) there)

@@ -1,16 +1,15 @@
 -- What is found of all ranges is what the book says of the command that was read.
+use Rattle.std.specs.Prelude.{is_some, Option, None, Some}
+use Rattle.rules.specs.declared.Part.{Part}
 use Prim.Native.Nat.{ℕ, ◌-◌, ◌/◌}
 use mathlib.Core.Path.{◌≡◌, refl, ap, sym, ◌∙◌}
 use mathlib.Core.Bool.{Bool, true, false, cond, ◌||◌, and-true}
-use mathlib.Core.Option.{some}
 use mathlib.Core.List.{List, [], ◌∷◌, map}
 use lib.ListN.{take}
 use Rattle.rules.specs.declared.Range.{Range}
-use Rattle.rules.specs.declared.Spot.{Spot}
-use Rattle.rules.specs.declared.Spot.TheVariants.{Absent, At}
 use Rattle.rules.specs.declared.Verb.{Verb}
 use Rattle.rules.specs.Bytes.{Bytes, part, any, all}
-use Rattle.rules.specs.Tests.{first_of, is_some}
+use Rattle.rules.specs.Tests.{first_of}
 use Rattle.rules.specs.Command.{Command, sole_range, segment}
 use Rattle.rules.specs.Segment.{places_from}
 use Rattle.rules.specs.Reading.{Held, found, ranges, ranges_of, solo, extension, extensions_of, capabilities}
@@ -52,7 +51,7 @@ module _ (v : Verb) (c : Command) where
     where
       go : (m : Bool) → meets (sought_in v c) k.bytes ≡ m → (i : Bool) → inside g k.bytes ≡ i
           → is_some (first_by v c g ks) ≡ inside_one (noted (sought_in v c) (bytes_of ks)) g
-          → is_some (cond (admits v c g k) (some k) (first_by v c g ks))
+          → is_some (cond (admits v c g k) (Some k) (first_by v c g ks))
           ≡ inside_one (cond (meets (sought_in v c) k.bytes) (allowance k.bytes ∷ noted (sought_in v c) (bytes_of ks)) (noted (sought_in v c) (bytes_of ks))) g
       go true e true f r = rw (admits_is v c g k, e, inside_is k.bytes g, f)
       go true e false f r = rw (admits_is v c g k, e, inside_is k.bytes g, f) r
@@ -63,9 +62,9 @@ module _ (v : Verb) (c : Command) where
   bytes_places [] = refl
   bytes_places (a ∷ ps) = ap (λ (ks : List Bytes). part a 104 (segment c) ∷ ks) (bytes_places ps)
 
-  bytes_spot : (x : Spot) → bytes_of (extensions_of x c) ≡ pieces_at (segment c) x
-  bytes_spot Absent = refl
-  bytes_spot (At d) = bytes_places (places_from (d.size / 104) d.at)
+  bytes_spot : (x : Option Part) → bytes_of (extensions_of x c) ≡ pieces_at (segment c) x
+  bytes_spot None = refl
+  bytes_spot (Some d) = bytes_places (places_from (d.size / 104) d.at)
 
   bytes_is : bytes_of (capabilities c) ≡ pieces_in c.cdb (segment c) (said_in v c)
   unfolding capabilities solo said_by
@@ -87,10 +86,10 @@ module _ (v : Verb) (c : Command) where
   each_is [] = refl
   each_is (g ∷ gs) = rw (one_is g, each_is gs)
 
-  ranges_is : (x : Spot) → all (inside_one allowances) (ranges_of x c) ≡ each_inside allowances (segment c) (said_in v c) x
+  ranges_is : (x : Option Part) → all (inside_one allowances) (ranges_of x c) ≡ each_inside allowances (segment c) (said_in v c) x
   unfolding all sole_range said_by
-  ranges_is Absent = and-true _
-  ranges_is (At d) = refl
+  ranges_is None = and-true _
+  ranges_is (Some d) = refl
 
   pub admitted_is : admitted v c ≡ admitted_in c.cdb (segment c) (said_in v c) c.on
   unfolding admitted admitted_in ranges said_by

@@ -1,9 +1,8 @@
 -- What the admission functions answer, over a command that was read: what those of its capabilities allow that match.
-use Rattle.std.specs.Prelude.{ℕ, ◌+◌, ◌/◌, ◌≡◌, Bool, true, false, cond, ◌&&◌, List, [], ◌∷◌, ◌++◌, map, length, take}
+use Rattle.std.specs.Prelude.{Option, None, Some, ℕ, ◌+◌, ◌/◌, ◌≡◌, Bool, true, false, cond, ◌&&◌, List, [], ◌∷◌, ◌++◌, map, length, take}
+use Rattle.rules.specs.declared.Part.{Part}
 use Rattle.rules.specs.declared.Record.{Record}
 use Rattle.rules.specs.declared.Range.{Range}
-use Rattle.rules.specs.declared.Spot.{Spot}
-use Rattle.rules.specs.declared.Spot.TheVariants.{Absent, At}
 use Rattle.rules.specs.Bytes.{Bytes, part, any, all}
 use Rattle.rules.specs.Segment.{places_from, entries_from}
 use Rattle.rules.specs.Writer.{paired}
@@ -17,9 +16,9 @@ use Rattle.capability.specs.Sought.{sought_by}
 abbrev pub pieces_from : Bytes → (number from : ℕ) → List Bytes
 pieces_from s n from = map (λ (a : ℕ). part a 104 s) (places_from n from)
 
-abbrev pub pieces_at : Bytes → Spot → List Bytes
-pieces_at s Absent = []
-pieces_at s (At d) = pieces_from s (d.size / 104) d.at
+abbrev pub pieces_at : Bytes → Option Part → List Bytes
+pieces_at s None = []
+pieces_at s (Some d) = pieces_from s (d.size / 104) d.at
 
 abbrev pub pieces_in : (cdb s : Bytes) → Parsed → List Bytes
 pieces_in cdb s p = part 80 104 cdb ∷ pieces_at s p.found.extension
@@ -39,9 +38,9 @@ abbrev pub inside_one : List Range → Range → Bool
 inside_one ws g = any (inside_of g) ws
 
 -- each range of the command does
-abbrev pub each_inside : List Range → Bytes → Parsed → Spot → Bool
-each_inside ws s p Absent = inside_one ws (record { start = p.start; size = p.size })
-each_inside ws s p (At d) = all (inside_one ws) (entries_from (d.size / 16) s d.at)
+abbrev pub each_inside : List Range → Bytes → Parsed → Option Part → Bool
+each_inside ws s p None = inside_one ws (record { start = p.start; size = p.size })
+each_inside ws s p (Some d) = all (inside_one ws) (entries_from (d.size / 16) s d.at)
 
 abbrev pub some_of : List Range → Bool
 some_of [] = false

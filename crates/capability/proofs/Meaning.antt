@@ -1,8 +1,8 @@
 -- The capabilities of a command that was read, as the book says of them.
+use Rattle.std.specs.Prelude.{Option}
 use Prim.Native.Nat.{◌-◌, ◌≤◌}
 use mathlib.Core.Path.{◌≡◌, refl, ap, sym, subst}
 use mathlib.Core.Bool.{Bool, ◌&&◌}
-use mathlib.Core.Option.{Option}
 use mathlib.Core.List.{List, map}
 use lib.ListN.{length, take}
 use Rattle.rules.specs.declared.Range.{Range}

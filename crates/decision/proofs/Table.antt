@@ -1,15 +1,14 @@
 -- The table of rows over a command that was read: each row's test by what was read, and the decision from the first that holds.
+use Rattle.std.specs.Prelude.{is_some, Option, None, Some}
+use Rattle.rules.specs.declared.Part.{Part}
 use Prim.Native.Nat.{◌-◌, ◌≤◌, ◌<◌}
 use mathlib.Core.Path.{◌≡◌, refl, ap, sym, ◌∙◌}
 use mathlib.Core.Logic.{◌⊎◌, inl, inr}
 use mathlib.Core.Bool.{Bool, true, false, cond, ◌&&◌, ◌||◌, not, or-true, false≢true}
-use mathlib.Core.Option.{none, some}
 use mathlib.Core.List.{List, ◌∷◌, ◌++◌}
 use lib.Dec.{eqb, ltb}
 use lib.ListN.{length, take, length-drop}
 use borrow.Author.Tests.{lt-ltb, le-ltb, ltb-false}
-use Rattle.rules.specs.declared.Spot.{Spot}
-use Rattle.rules.specs.declared.Spot.TheVariants.{Absent, At}
 use Rattle.rules.specs.declared.Found.{Found}
 use Rattle.rules.specs.declared.Refusal.{Refusal}
 use Rattle.rules.specs.declared.Refusal.TheVariants.{ObjectUnfit, ListWithStart, ListFault, NotAdmitted, StartsBeyond, BufferShort, NoRoom}
@@ -19,7 +18,7 @@ use Rattle.rules.specs.Bytes.{Bytes}
 use Rattle.rules.specs.Tests.{Test, test, first_of}
 use Rattle.rules.specs.Command.{Command, length_of, start_of, continuation, verb, asks, is_read, is_write, is_clear, is_punch, segment, payload, sole_range}
 use Rattle.rules.specs.Ranges.{total, overlapping, reach}
-use Rattle.rules.specs.Reading.{found, listed, present, ranges, ranges_of}
+use Rattle.rules.specs.Reading.{found, listed, ranges, ranges_of}
 use Rattle.rules.specs.Header.{header}
 use Rattle.rules.specs.Admission.{admitted}
 use Rattle.rules.specs.Rows.{Room, object_unfit, list_with_start, list_fault, not_admitted, starts_beyond, buffer_short, raised, no_room, rows, refusal}
@@ -38,7 +37,7 @@ use Rattle.decision.specs.declared.Decision.TheVariants.{Refuse}
 use Rattle.decision.specs.Decisions.{fault_at, room_for, reads, writes, clears, punches, writes_to, clears_to, decided, decision_of, Open, LetIn}
 
 -- a row that refuses
-pub refuses : (c : Command) (m : Room) (w : Refusal) → refusal c m ≡ some w → Refuse w ≡ decision_of c m
+pub refuses : (c : Command) (m : Room) (w : Refusal) → refusal c m ≡ Some w → Refuse w ≡ decision_of c m
 unfolding decision_of
 refuses c m w e = rw e
 
@@ -84,9 +83,9 @@ module _ (c : Command) (m : Room) (p : Parsed) (o : Open c m p) where
   unfolding ranges ranges_in sole_range
   ranges_are = go p.found.list (ap (λ (f : Found). f.list) found_is)
     where
-      go : (x : Spot) → (found c).list ≡ x → ranges_of (found c).list c ≡ ranges_at x (segment c) p
-      go Absent e = rw (e, start_is, size_is)
-      go (At d) e = rw e
+      go : (x : Option Part) → (found c).list ≡ x → ranges_of (found c).list c ≡ ranges_at x (segment c) p
+      go None e = rw (e, start_is, size_is)
+      go (Some d) e = rw e
 
   -- the part of Data-Out that the code takes for the segment
   pub part_is : take (p.segment - 0) c.out ≡ segment c
@@ -111,11 +110,11 @@ module _ (c : Command) (m : Room) (p : Parsed) (o : Open c m p) where
   left ts = skip _ _ o.object ∙ behind (header c) ts said.passes
 
   -- row 9
-  row9 : list_with_start c ≡ (present p.found.list && not (eqb p.start 0))
+  row9 : list_with_start c ≡ (is_some p.found.list && not (eqb p.start 0))
   unfolding list_with_start listed
   row9 = rw (found_is, start_is)
 
-  module _ (b : Bool) (e : b ≡ (present p.found.list && not (eqb p.start 0))) where
+  module _ (b : Bool) (e : b ≡ (is_some p.found.list && not (eqb p.start 0))) where
     pub start_refused : b ≡ true → Refuse ListWithStart ≡ decision_of c m
     unfolding refusal rows
     start_refused h = refuses c m ListWithStart (left _ ∙ hit _ _ (row9 ∙ sym e ∙ h))
@@ -128,13 +127,13 @@ module _ (c : Command) (m : Room) (p : Parsed) (o : Open c m p) where
   unfolding list_fault listed fault_in ranges
   row10 = go p.found.list (ap (λ (f : Found). f.list) found_is)
     where
-      go : (x : Spot) → (found c).list ≡ x
-          → (present (found c).list
+      go : (x : Option Part) → (found c).list ≡ x
+          → (is_some (found c).list
           && (not (eqb (total (ranges_of (found c).list c)) (length_of c.cdb)) || asks (verb c) is_write && overlapping
           (ranges_of (found c).list c)))
           ≡ fault_at x (segment c) p
-      go Absent e = rw e
-      go (At d) e = rw (e, said.verb, size_is)
+      go None e = rw e
+      go (Some d) e = rw (e, said.verb, size_is)
 
   module _ (starts : list_with_start c ≡ false) (t : Bool) (e : t ≡ fault_at p.found.list (take (p.segment - 0) c.out) p) where
     fault_is : list_fault c ≡ t
@@ -162,7 +161,7 @@ module _ (c : Command) (m : Room) (p : Parsed) (l : LetIn c m p) where
   o : Open c m p
   o = l.readable
 
-  verb_is : verb c ≡ some p.verb
+  verb_is : verb c ≡ Some p.verb
   verb_is = (said c m p o).verb
 
   tail : (ts : List (Test Refusal))
@@ -197,14 +196,14 @@ module _ (c : Command) (m : Room) (p : Parsed) (l : LetIn c m p) where
   row14 = rw verb_is
 
   -- nothing refuses
-  does : refusal c m ≡ none → decided none (some p.verb) c ≡ decision_of c m
+  does : refusal c m ≡ None → decided None (Some p.verb) c ≡ decision_of c m
   unfolding decision_of
   does e = rw (e, verb_is)
 
   said_is : said_by p.verb c.cdb (found c) ≡ p
   said_is = sym (said c m p o).said
 
-  passes : starts_beyond c ≡ false → buffer_short c m ≡ false → no_room c m ≡ false → refusal c m ≡ none
+  passes : starts_beyond c ≡ false → buffer_short c m ≡ false → no_room c m ≡ false → refusal c m ≡ None
   unfolding refusal rows
   passes a b d = tail _ ∙ skip _ _ a ∙ skip _ _ b ∙ skip _ _ d ∙ none_left
 

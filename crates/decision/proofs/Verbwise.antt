@@ -1,4 +1,5 @@
 -- Rows 12 to 14, verb by verb, as the code tests them.
+use Rattle.std.specs.Prelude.{Option, None, Some}
 use Prim.Native.Nat.{ℕ, ◌/◌, ◌≤◌, ◌<◌}
 use mathlib.Core.Path.{◌≡◌, sym, ap, ◌∙◌}
 use mathlib.Core.Bool.{Bool, true, false, or-true, and-false}
@@ -6,8 +7,6 @@ use native.Mathlib.Omega.{arith}
 use borrow.Author.Tests.{lt-ltb, le-ltb}
 use Rattle.rules.specs.declared.Record.{Record}
 use Rattle.rules.specs.declared.Part.{Part}
-use Rattle.rules.specs.declared.Spot.{Spot}
-use Rattle.rules.specs.declared.Spot.TheVariants.{Absent, At}
 use Rattle.rules.specs.declared.Refusal.TheVariants.{StartsBeyond, BufferShort, NoRoom}
 use Rattle.rules.specs.Bytes.{Bytes}
 use Rattle.rules.specs.Command.{is_write}
@@ -92,9 +91,9 @@ module _ (s : Bytes) (p : Parsed) where
       clear_on n q = sym (ap (clears_to p) (sym e ∙ q))
 
   -- row 10
-  pub no_list : p.found.list ≡ Absent → false ≡ fault_at p.found.list s p
-  no_list e = sym (ap (λ (x : Spot). fault_at x s p) e)
+  pub no_list : p.found.list ≡ None → false ≡ fault_at p.found.list s p
+  no_list e = sym (ap (λ (x : Option Part). fault_at x s p) e)
 
-  pub a_list : (d : Part) → p.found.list ≡ At d → (b t : Bool) → b ≡ is_write p.verb → t ≡ fault_in (entries_from (d.size / 16) s d.at) p.size b
+  pub a_list : (d : Part) → p.found.list ≡ Some d → (b t : Bool) → b ≡ is_write p.verb → t ≡ fault_in (entries_from (d.size / 16) s d.at) p.size b
       → t ≡ fault_at p.found.list s p
-  a_list d e b t w q = q ∙ ap (fault_in (entries_from (d.size / 16) s d.at) p.size) w ∙ sym (ap (λ (x : Spot). fault_at x s p) e)
+  a_list d e b t w q = q ∙ ap (fault_in (entries_from (d.size / 16) s d.at) p.size) w ∙ sym (ap (λ (x : Option Part). fault_at x s p) e)

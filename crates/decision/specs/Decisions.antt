@@ -1,8 +1,6 @@
 -- What the decision answers, by the book's rows, and names for its parts over a command that was read.
-use Rattle.std.specs.Prelude.{ℕ, ◌/◌, ◌≡◌, Bool, false, cond, ◌&&◌, ◌||◌, ltb}
-use Rattle.std.proofs.Math.Option.{Option, none, some}
-use Rattle.rules.specs.declared.Spot.{Spot}
-use Rattle.rules.specs.declared.Spot.TheVariants.{Absent, At}
+use Rattle.std.specs.Prelude.{Option, None, Some, ℕ, ◌/◌, ◌≡◌, Bool, false, cond, ◌&&◌, ◌||◌, ltb}
+use Rattle.rules.specs.declared.Part.{Part}
 use Rattle.rules.specs.declared.Record.{Record}
 use Rattle.rules.specs.declared.Refusal.{Refusal}
 use Rattle.rules.specs.declared.Refusal.TheVariants.{ActionUnknown, StartsBeyond, BufferShort, NoRoom}
@@ -29,12 +27,12 @@ room_for logical maximum slice n = cond (ltb logical n && (ltb maximum n || ltb 
 
 -- what is decided of a call: the refusal, or what is to be carried out. Row 3 refuses a command without a verb, so the second line is never reached.
 abbrev pub decided : Option Refusal → Option Verb → Command → Decision
-decided (some w) v c = Refuse w
-decided none none c = Refuse ActionUnknown
-decided none (some Verb.Read) c = Decision.Read (said_by Verb.Read c.cdb (found c))
-decided none (some Verb.Write) c = Decision.Write (said_by Verb.Write c.cdb (found c)) (raised c)
-decided none (some Verb.Clear) c = Decision.Clear (said_by Verb.Clear c.cdb (found c)) (raised c)
-decided none (some Verb.Punch) c = Decision.Punch (said_by Verb.Punch c.cdb (found c))
+decided (Some w) v c = Refuse w
+decided None None c = Refuse ActionUnknown
+decided None (Some Verb.Read) c = Decision.Read (said_by Verb.Read c.cdb (found c))
+decided None (Some Verb.Write) c = Decision.Write (said_by Verb.Write c.cdb (found c)) (raised c)
+decided None (Some Verb.Clear) c = Decision.Clear (said_by Verb.Clear c.cdb (found c)) (raised c)
+decided None (Some Verb.Punch) c = Decision.Punch (said_by Verb.Punch c.cdb (found c))
 
 unfoldable pub decision_of : Command → Room → Decision
 decision_of c m = decided (refusal c m) (verb c) c
@@ -79,6 +77,6 @@ unfoldable pub punches : (s : Bytes) → Parsed → (logical : ℕ) → Decision
 punches s p n = cond (beyond_in (ranges_in s p) n) (Refuse StartsBeyond) (Decision.Punch p)
 
 -- row 10, of a command that was read
-abbrev pub fault_at : Spot → Bytes → Parsed → Bool
-fault_at Absent s p = false
-fault_at (At d) s p = fault_in (entries_from (d.size / 16) s d.at) p.size (is_write p.verb)
+abbrev pub fault_at : Option Part → Bytes → Parsed → Bool
+fault_at None s p = false
+fault_at (Some d) s p = fault_in (entries_from (d.size / 16) s d.at) p.size (is_write p.verb)

@@ -3,10 +3,9 @@
 
 #![tactic(auto)]
 
-ghost use Rattle.std.specs.Prelude.{◌≡◌, ◌≤◌, ◌&&◌, not, eqb};
+ghost use Rattle.std.specs.Prelude.{is_some, ◌≡◌, ◌≤◌, ◌&&◌, not, eqb};
 ghost use Rattle.rules.specs.Ranges.{reach};
 ghost use Rattle.rules.specs.Command.{is_write};
-ghost use Rattle.rules.specs.Reading.{present};
 ghost use Rattle.segment.specs.Lying.{ListAt};
 ghost use Rattle.ranges.specs.Asked.{beyond_in};
 ghost use Rattle.ranges.specs.Reached.{within};
@@ -163,7 +162,7 @@ fn is_write(verb: Verb) -> bool
 
 // Row 9.
 fn has_wrong_start(said: Parsed) -> bool
-    ensures { result ≡ (present said.found.list && not (eqb said.start 0)) }
+    ensures { result ≡ (is_some said.found.list && not (eqb said.start 0)) }
 {
     let found = said.found;
     let list = found.list;

@@ -1,8 +1,8 @@
 -- From the decision to the action: what was decided says which answer is wanted, and that nothing hinders it.
+use Rattle.std.specs.Prelude.{Option, None, Some}
 use Prim.Native.Nat.{ℕ, ◌+◌, ◌-◌, ◌≤◌}
 use mathlib.Core.Path.{◌≡◌, refl, ap, sym, subst, ◌∙◌}
 use mathlib.Core.Bool.{cond}
-use mathlib.Core.Option.{Option, none, some}
 use mathlib.Core.List.{[], ◌∷◌, ◌++◌}
 use native.Mathlib.Omega.{arith}
 use lib.Dec.{ltb}
@@ -41,14 +41,14 @@ use Rattle.actions.specs.Ready.{ForClear, ForPunch}
 use Rattle.engine.specs.Promise.{whole}
 
 -- rows 2 to 8 don't refuse what no row refuses
-header_none : (c : Command) (m : Room) → refusal c m ≡ none → first_of (header c) ≡ none
+header_none : (c : Command) (m : Room) → refusal c m ≡ None → first_of (header c) ≡ None
 unfolding refusal rows
 header_none c m e = ahead_none (header c) _ (skips _ _ e).1
 
 -- what is carried out of a call that no row refuses
 pub record Taken (c : Command) (m : Room) (v : Verb) (p : Parsed) : Type 0 where
-  pub accepted : refusal c m ≡ none
-  pub verb : verb c ≡ some v
+  pub accepted : refusal c m ≡ None
+  pub verb : verb c ≡ Some v
   pub said : p ≡ said_by v c.cdb (found c)
 
 -- what a decision says of a call
@@ -72,24 +72,24 @@ unfolding decision_of
 facts c m = go (refusal c m) refl (verb c) refl
   where
     go : (o : Option Refusal) → refusal c m ≡ o → (u : Option Verb) → verb c ≡ u → Facts c m (decided o u c)
-    go (some w) e u f = tt
-    go none e none f = tt
-    go none e (some Read) f = record { accepted = e; verb = f; said = refl }
-    go none e (some Write) f = (record { accepted = e; verb = f; said = refl }, refl)
-    go none e (some Clear) f = (record { accepted = e; verb = f; said = refl }, refl)
-    go none e (some Punch) f = record { accepted = e; verb = f; said = refl }
+    go (Some w) e u f = tt
+    go None e None f = tt
+    go None e (Some Read) f = record { accepted = e; verb = f; said = refl }
+    go None e (Some Write) f = (record { accepted = e; verb = f; said = refl }, refl)
+    go None e (Some Clear) f = (record { accepted = e; verb = f; said = refl }, refl)
+    go None e (Some Punch) f = record { accepted = e; verb = f; said = refl }
 
 wanted : (c : Command) (s i : Bytes) → Wanted (decision_of c (room (length s) (length i))) c s i ≡ answered c s i
 unfolding decision_of answered settled
 wanted c s i = go (refusal c (room (length s) (length i))) (verb c)
   where
     go : (o : Option Refusal) (u : Option Verb) → Wanted (decided o u c) c s i ≡ settled o u c s i
-    go (some w) u = refl
-    go none none = refl
-    go none (some Read) = refl
-    go none (some Write) = refl
-    go none (some Clear) = refl
-    go none (some Punch) = refl
+    go (Some w) u = refl
+    go None None = refl
+    go None (Some Read) = refl
+    go None (Some Write) = refl
+    go None (Some Clear) = refl
+    go None (Some Punch) = refl
 
 -- ---- an action that is taken
 module _ {c : Command} {m : Room} {v : Verb} {p : Parsed} (t : Taken c m v p) where

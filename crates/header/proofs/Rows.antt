@@ -1,8 +1,9 @@
 -- The reading of a command, row by row: the tests that were made, as the book's rows have them.
+use Rattle.std.specs.Prelude.{is_some, Ok, Err, Option, None, Some}
+use Rattle.rules.specs.Segment.{fault, Walk, walk, nothing}
 use Prim.Native.Nat.{ℕ, ◌-◌, ◌≤◌}
 use mathlib.Core.Path.{◌≡◌, refl, ap, sym, ◌∙◌}
 use mathlib.Core.Bool.{Bool, true, false, ◌&&◌, ◌||◌, not}
-use mathlib.Core.Option.{Option, none, some}
 use mathlib.Core.List.{List, ◌∷◌}
 use native.Mathlib.Nat.{sub-zero}
 use native.Mathlib.Omega.{arith}
@@ -12,19 +13,13 @@ use borrow.Author.Tests.{eqb-true, ne_eqb, le-ltb, ltb-false, not-false}
 use Rattle.rules.specs.declared.Cause.{Cause}
 use Rattle.rules.specs.declared.Found.{Found}
 use Rattle.rules.specs.declared.Refusal.{Refusal}
-use Rattle.rules.specs.declared.Refusal.TheVariants.{CdbMalformed, ActionUnknown, OtherObject}
-use Rattle.rules.specs.declared.Refusal.TheVariants.{ContinuationLength, SegmentHeader, Descriptor, ListForbidden}
+use Rattle.rules.specs.declared.Refusal.TheVariants.{CdbMalformed, ActionUnknown, OtherObject, ContinuationLength, SegmentHeader, Descriptor, ListForbidden}
 use Rattle.rules.specs.declared.Verb.{Verb}
-use Rattle.rules.specs.declared.Walk.{Walk}
-use Rattle.rules.specs.declared.Walk.TheVariants.{Whole, Broken}
 use Rattle.rules.specs.Bytes.{Bytes, byte, field}
 use Rattle.rules.specs.Tests.{Test, test, first_of}
-use Rattle.rules.specs.Command.{Command, action, continuation, partition_of, object_of, start_of, length_of, segment, verb_of, verb}
-use Rattle.rules.specs.Command.{is_clear, is_punch}
-use Rattle.rules.specs.Segment.{walk, nothing}
-use Rattle.rules.specs.Reading.{walked, found, listed, present}
-use Rattle.rules.specs.Header.{cdb_malformed, action_unknown, front_rows, other_object}
-use Rattle.rules.specs.Header.{continued, continuation_wrong, segment_header_wrong, descriptor_faulty, list_forbidden, segment_rows, header}
+use Rattle.rules.specs.Command.{Command, action, continuation, partition_of, object_of, start_of, length_of, segment, verb_of, verb, is_clear, is_punch}
+use Rattle.rules.specs.Reading.{walked, found, listed}
+use Rattle.rules.specs.Header.{cdb_malformed, action_unknown, front_rows, other_object, continued, continuation_wrong, segment_header_wrong, descriptor_faulty, list_forbidden, segment_rows, header}
 use Rattle.rules.proofs.Passed.{skips, header_passed}
 use Rattle.rules.proofs.Course.{has_verb}
 use Rattle.rules.proofs.First.{hit, skip, none_left, ahead, behind}
@@ -39,26 +34,26 @@ use Rattle.header.specs.Reading.{named, said_by, settled, front_of, other_than, 
 
 -- no row held, and the command has this verb and says this
 pub record Settled (o : Option Refusal) (u : Option Verb) (cdb : Bytes) (f : Found) (p : Parsed) : Type 0 where
-  pub passes : o ≡ none
-  pub verb : u ≡ some p.verb
+  pub passes : o ≡ None
+  pub verb : u ≡ Some p.verb
   pub said : p ≡ said_by p.verb cdb f
 
 module _ (cdb : Bytes) (f : Found) where
   read_so : (o : Option Refusal) (u : Option Verb) (p : Parsed) → settled o u cdb f ≡ Readable p → Settled o u cdb f p
   unfolding said_by
-  read_so (some w) u p q = let z : ◌≡◌ {A = ℕ} 0 1 = cc in absurd (omega arith)
-  read_so none none p q = let z : ◌≡◌ {A = ℕ} 0 1 = cc in absurd (omega arith)
-  read_so none (some v) p q =
+  read_so (Some w) u p q = let z : ◌≡◌ {A = ℕ} 0 1 = cc in absurd (omega arith)
+  read_so None None p q = let z : ◌≡◌ {A = ℕ} 0 1 = cc in absurd (omega arith)
+  read_so None (Some v) p q =
       let s : said_by v cdb f ≡ p = cc in
       let same : v ≡ p.verb = ap (λ (k : Parsed). k.verb) s in
-      record { passes = refl; verb = ap some same; said = sym s ∙ ap (λ (k : Verb). said_by k cdb f) same }
+      record { passes = refl; verb = ap Some same; said = sym s ∙ ap (λ (k : Verb). said_by k cdb f) same }
 
-  refused_so : (o : Option Refusal) (u : Option Verb) (w : Refusal) → (o ≡ none → (v : Verb) × (u ≡ some v))
-      → settled o u cdb f ≡ Unreadable w → o ≡ some w
-  refused_so (some k) u w known q = let s : k ≡ w = cc in ap some s
-  refused_so none (some v) w known q = let z : ◌≡◌ {A = ℕ} 0 1 = cc in absurd (omega arith)
-  refused_so none none w known q =
-      let n : none ≡ some (known refl).0 = (known refl).1 in
+  refused_so : (o : Option Refusal) (u : Option Verb) (w : Refusal) → (o ≡ None → (v : Verb) × (u ≡ Some v))
+      → settled o u cdb f ≡ Unreadable w → o ≡ Some w
+  refused_so (Some k) u w known q = let s : k ≡ w = cc in ap Some s
+  refused_so None (Some v) w known q = let z : ◌≡◌ {A = ℕ} 0 1 = cc in absurd (omega arith)
+  refused_so None None w known q =
+      let n : None ≡ Some (known refl).0 = (known refl).1 in
       let z : ◌≡◌ {A = ℕ} 0 1 = cc in
       absurd (omega arith)
 
@@ -70,18 +65,18 @@ pub says : (c : Command) (p : Parsed) → reading_of c ≡ Readable p → Says c
 unfolding reading_of
 says c p e = read_so c.cdb (found c) _ _ p e
 
-pub unreadable : (c : Command) (w : Refusal) → reading_of c ≡ Unreadable w → first_of (header c) ≡ some w
+pub unreadable : (c : Command) (w : Refusal) → reading_of c ≡ Unreadable w → first_of (header c) ≡ Some w
 unfolding reading_of verb
 unreadable c w e = refused_so c.cdb (found c) _ _ w (λ h. has_verb c.cdb (header_passed c h).action) e
 
 -- no row refuses
-pub read_by : (c : Command) (v : Verb) → first_of (header c) ≡ none → verb c ≡ some v → Readable (said_by v c.cdb (found c)) ≡ reading_of c
+pub read_by : (c : Command) (v : Verb) → first_of (header c) ≡ None → verb c ≡ Some v → Readable (said_by v c.cdb (found c)) ≡ reading_of c
 unfolding reading_of
 read_by c v e h = rw (e, h)
 
 -- ---- rows 2 and 3, of the CDB alone
 
-front_passed : (cdb : Bytes) → first_of (front_rows cdb) ≡ none → (cdb_malformed cdb ≡ false) × (action_unknown cdb ≡ false)
+front_passed : (cdb : Bytes) → first_of (front_rows cdb) ≡ None → (cdb_malformed cdb ≡ false) × (action_unknown cdb ≡ false)
 unfolding front_rows
 front_passed cdb e = let r = skips _ _ e in (r.0, (skips _ _ r.1).0)
 
@@ -103,16 +98,16 @@ module _ (cdb : Bytes) (formed : cdb_malformed cdb ≡ false) (n : Named) (e : n
   unknown q = go (verb_of (action cdb)) refl (sym e ∙ q)
     where
       go : (o : Option Verb) → verb_of (action cdb) ≡ o → named o ≡ Unknown → Unreadable ActionUnknown ≡ front_of cdb
-      go none h r = rw (formed, h)
-      go (some v) h r = let z : ◌≡◌ {A = ℕ} 0 1 = cc in absurd (omega arith)
+      go None h r = rw (formed, h)
+      go (Some v) h r = let z : ◌≡◌ {A = ℕ} 0 1 = cc in absurd (omega arith)
 
   pub known : (v : Verb) → n ≡ Known v → (p : Parsed) → p ≡ said_by v cdb nothing → Readable p ≡ front_of cdb
   unfolding front_of front_rows first_of action_unknown
   known v q p s = go (verb_of (action cdb)) refl (sym e ∙ q)
     where
       go : (o : Option Verb) → verb_of (action cdb) ≡ o → named o ≡ Known v → Readable p ≡ front_of cdb
-      go none h r = let z : ◌≡◌ {A = ℕ} 0 1 = cc in absurd (omega arith)
-      go (some u) h r = let k : u ≡ v = cc in rw (formed, h, k, s)
+      go None h r = let z : ◌≡◌ {A = ℕ} 0 1 = cc in absurd (omega arith)
+      go (Some u) h r = let k : u ≡ v = cc in rw (formed, h, k, s)
 
 -- what is read of a CDB, from its five numbers
 pub said_read : (cdb : Bytes) (v : Verb) (partition object start size segment : ℕ)
@@ -173,17 +168,17 @@ module _ (c : Command) (p : Parsed) (e : front_of c.cdb ≡ Readable p) where
 
 -- a row that refuses, and no row that does
 module _ (c : Command) where
-  segment_refused : (w : Refusal) → first_of (segment_rows c) ≡ some w → Unreadable w ≡ segment_of c
+  segment_refused : (w : Refusal) → first_of (segment_rows c) ≡ Some w → Unreadable w ≡ segment_of c
   unfolding segment_of
   segment_refused w e = rw e
 
-  segment_read : (v : Verb) → first_of (segment_rows c) ≡ none → verb c ≡ some v → Readable (said_by v c.cdb (found c)) ≡ segment_of c
+  segment_read : (v : Verb) → first_of (segment_rows c) ≡ None → verb c ≡ Some v → Readable (said_by v c.cdb (found c)) ≡ segment_of c
   unfolding segment_of
   segment_read v e h = rw (e, h)
 
 -- without a segment nothing is found, and rows 5 to 8 don't refuse
 module _ (c : Command) (z : continuation c.cdb ≡ 0) where
-  finds_nothing : walked c ≡ Whole nothing
+  finds_nothing : walked c ≡ Ok nothing
   unfolding walked
   finds_nothing = rw z
 
@@ -191,7 +186,7 @@ module _ (c : Command) (z : continuation c.cdb ≡ 0) where
   unfolding found
   found_nothing = rw finds_nothing
 
-  no_row : first_of (segment_rows c) ≡ none
+  no_row : first_of (segment_rows c) ≡ None
   unfolding first_of segment_rows continuation_wrong continued segment_header_wrong descriptor_faulty list_forbidden listed
   no_row = rw (z, finds_nothing, found_nothing)
 
@@ -263,16 +258,16 @@ module _ (c : Command) (p : Parsed) (o : Opened c.cdb c.out p) where
       walk_is = rw (ne_eqb _ _ (λ (z : continuation c.cdb ≡ 0). omega (arith, o.begins, size, z))) (sym (rw part_is at h))
 
       -- row 7
-      pub broken : (k : Cause) (at : ℕ) → w ≡ Broken k at → Unreadable Descriptor ≡ segment_of c
+      pub broken : (k : Cause) (at : ℕ) → w ≡ Err (fault k at) → Unreadable Descriptor ≡ segment_of c
       unfolding segment_rows descriptor_faulty
       broken k at g = segment_refused c Descriptor (opened _ ∙ skip _ _ (row6 ∙ q) ∙ hit _ _ (rw (walk_is ∙ g)))
 
-      module _ (f : Found) (g : w ≡ Whole f) (u : Bool) (d : u ≡ (present f.list && (is_clear p.verb || is_punch p.verb))) where
+      module _ (f : Found) (g : w ≡ Ok f) (u : Bool) (d : u ≡ (is_some f.list && (is_clear p.verb || is_punch p.verb))) where
         found_is : found c ≡ f
         unfolding found
         found_is = rw (walk_is ∙ g)
 
-        verb_is : verb c ≡ some p.verb
+        verb_is : verb c ≡ Some p.verb
         unfolding verb
         verb_is = (fronted c.cdb p o.front).verb
 

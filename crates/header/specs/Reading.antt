@@ -1,6 +1,5 @@
 -- What the reading of a command answers, by the book's rows 2 to 8: as three questions, and as one.
-use Rattle.std.specs.Prelude.{◌≤◌, ◌≡◌, Bool, ◌||◌, not, eqb, length}
-use Rattle.std.proofs.Math.Option.{Option, none, some}
+use Rattle.std.specs.Prelude.{Option, None, Some, ◌≤◌, ◌≡◌, Bool, ◌||◌, not, eqb, length}
 use Rattle.rules.specs.declared.Record.{Record}
 use Rattle.rules.specs.declared.Refusal.{Refusal}
 use Rattle.rules.specs.declared.Refusal.TheVariants.{ActionUnknown}
@@ -19,8 +18,8 @@ use Rattle.header.specs.declared.Reading.{Reading}
 use Rattle.header.specs.declared.Reading.TheVariants.{Unreadable, Readable}
 
 abbrev pub named : Option Verb → Named
-named none = Unknown
-named (some v) = Known v
+named None = Unknown
+named (Some v) = Known v
 
 abbrev pub command : (cdb out : Bytes) → Record → Command
 command cdb out r = record { cdb = cdb; out = out; on = r }
@@ -40,9 +39,9 @@ said_by v cdb f =
 
 -- Row 3 refuses a command without a verb, so the second line is never reached.
 abbrev pub settled : Option Refusal → Option Verb → (cdb : Bytes) → Found → Reading
-settled (some w) v cdb f = Unreadable w
-settled none none cdb f = Unreadable ActionUnknown
-settled none (some v) cdb f = Readable (said_by v cdb f)
+settled (Some w) v cdb f = Unreadable w
+settled None None cdb f = Unreadable ActionUnknown
+settled None (Some v) cdb f = Readable (said_by v cdb f)
 
 -- rows 2 and 3, of the CDB alone, with nothing found yet
 unfoldable pub front_of : (cdb : Bytes) → Reading

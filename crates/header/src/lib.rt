@@ -4,11 +4,10 @@
 
 #![tactic(auto)]
 
-ghost use Rattle.std.specs.Prelude.{◌≡◌, ◌≤◌, ◌&&◌, ◌||◌, not, eqb, ltb, length};
+ghost use Rattle.std.specs.Prelude.{is_some, ◌≡◌, ◌≤◌, ◌&&◌, ◌||◌, not, eqb, ltb, length};
 ghost use Rattle.rules.specs.Bytes.{byte, field};
 ghost use Rattle.rules.specs.Command.{verb_of, is_clear, is_punch};
 ghost use Rattle.rules.specs.Header.{cdb_malformed};
-ghost use Rattle.rules.specs.Reading.{present};
 ghost use Rattle.rules.specs.Segment.{walk, nothing};
 ghost use Rattle.rules.specs.declared.Record.{Record};
 ghost use Rattle.header.specs.declared.Reading.TheVariants.{Readable};
@@ -157,7 +156,7 @@ fn takes_no_list(verb: Verb) -> bool
 
 // Row 8.
 fn is_forbidden(verb: Verb, list: Spot) -> bool
-    ensures { result ≡ (present list && (is_clear verb || is_punch verb)) }
+    ensures { result ≡ (is_some list && (is_clear verb || is_punch verb)) }
 {
     match list {
         Spot::Absent => false,

@@ -1,8 +1,8 @@
 -- The two tables of the code have the book's sense at each number, and past their end there is none.
+use Rattle.std.specs.Prelude.{None}
 use Prim.Native.Nat.{ℕ, zero, suc, ◌+◌, ◌<◌, ◌≤◌}
 use mathlib.Core.Path.{◌≡◌, refl, ap, sym, ◌∙◌}
 use mathlib.Core.Bool.{Bool, true, false, ◌&&◌}
-use mathlib.Core.Option.{none}
 use mathlib.Core.List.{List, [], ◌∷◌, map}
 use native.Mathlib.Nat.{add-zero, zero-add, add-suc, suc-add, le_of_suc-le-suc, not-suc-le-zero}
 use native.Mathlib.Omega.{arith}
@@ -31,7 +31,7 @@ from f (x ∷ xs) i t (suc k) h =
 
 -- ---- past the table's end
 later : (n : ℕ) (ls : List Line) → all (λ (l : Line). ltb l.of 16) ls ≡ true → 16 ≤ n
-    → first_of (map (λ (l : Line). test l.sense (eqb n l.of)) ls) ≡ none
+    → first_of (map (λ (l : Line). test l.sense (eqb n l.of)) ls) ≡ None
 unfolding all first_of
 later n [] t h = refl
 later n (l ∷ ls) t h =

@@ -1,4 +1,5 @@
 -- A command's ranges gathered or filled, with a list and without: what the steps ask, and what they come to.
+use Rattle.std.specs.Prelude.{None, Some}
 use Prim.Native.Nat.{ℕ, ◌+◌, ◌*◌, ◌/◌, ◌≤◌}
 use mathlib.Core.Path.{◌≡◌, ◌∙◌}
 use mathlib.Core.Bool.{false}
@@ -9,7 +10,6 @@ use lib.ListN.{length, drop}
 use borrow.Author.Tests.{ltb-false}
 use Rattle.rules.specs.declared.Part.{Part}
 use Rattle.rules.specs.declared.Range.{Range}
-use Rattle.rules.specs.declared.Spot.TheVariants.{Absent, At}
 use Rattle.rules.specs.Bytes.{Bytes, part, laid, any}
 use Rattle.rules.specs.Ranges.{total, reach}
 use Rattle.rules.specs.Segment.{entries_from}
@@ -31,7 +31,7 @@ abbrev pub Put : (d before after : Bytes) → (count : ℕ) → Type 0
 Put d i j k = (k ≡ length d) × (j ≡ d ++ drop (length d) i)
 
 module _ {s : Bytes} {p : Parsed} {n slice input : ℕ} (f : ForRead s p n slice input) where
-  module _ (e : p.found.list ≡ Absent) (g : Range) (is : g ≡ sole p) where
+  module _ (e : p.found.list ≡ None) (g : Range) (is : g ≡ sole p) where
     pub sole_asks : (g.start ≤ n) × (n ≤ slice) × (0 + g.size ≤ input)
     unfolding any total
     sole_asks =
@@ -45,7 +45,7 @@ module _ {s : Bytes} {p : Parsed} {n slice input : ℕ} (f : ForRead s p n slice
         let d : gathered o (ranges_in s p) ≡ part g.start g.size o = rw (sole_range_lem s p e, is) (gathered_sole o (sole p)) in
         rw d (h.0, h.1 ∙ laid_first _ i)
 
-  module _ (d : Part) (e : p.found.list ≡ At d) (k : ℕ) (is : k ≡ d.size / 16) where
+  module _ (d : Part) (e : p.found.list ≡ Some d) (k : ℕ) (is : k ≡ d.size / 16) where
     entries : ranges_in s p ≡ entries_from k s d.at
     entries = rw is (entry_ranges s p d e)
 
@@ -63,7 +63,7 @@ module _ {s : Bytes} {p : Parsed} {n slice input : ℕ} (f : ForRead s p n slice
 
 -- ---- WRITE: the ranges filled
 module _ {s : Bytes} {p : Parsed} {n raised out slice : ℕ} (f : ForWrite s p n raised out slice) where
-  module _ (e : p.found.list ≡ Absent) (g : Range) (is : g ≡ sole p) where
+  module _ (e : p.found.list ≡ None) (g : Range) (is : g ≡ sole p) where
     pub write_asks : (p.segment + g.size ≤ out) × (reach n (g ∷ []) ≤ slice)
     unfolding total
     write_asks =
@@ -76,7 +76,7 @@ module _ {s : Bytes} {p : Parsed} {n raised out slice : ℕ} (f : ForWrite s p n
         let top : raised ≡ reach n (sole p ∷ []) = rw (sole_range_lem s p e) at f.reaches in
         h ∙ rw (is, sole_range_lem s p e, top)
 
-  module _ (d : Part) (e : p.found.list ≡ At d) where
+  module _ (d : Part) (e : p.found.list ≡ Some d) where
     pub grow_asks : (n ≤ raised) × (raised ≤ slice)
     grow_asks = (rw f.reaches (reach_old n (ranges_in s p)), f.fits)
 

@@ -1,4 +1,5 @@
 -- The search's first and last steps: the CDB's capability, then the extension's, if there is one; and the part handed back.
+use Rattle.std.specs.Prelude.{None, Some}
 use Prim.Native.Nat.{ℕ, ◌+◌}
 use denote.Ref.{Bor}
 use mathlib.Core.List.{List, []}
@@ -7,7 +8,6 @@ use mathlib.Core.Bool.{Bool, true, false}
 use Rattle.rules.specs.declared.Record.{Record}
 use Rattle.rules.specs.declared.Range.{Range}
 use Rattle.rules.specs.declared.Part.{Part}
-use Rattle.rules.specs.declared.Spot.TheVariants.{Absent, At}
 use Rattle.rules.specs.Bytes.{Bytes, part}
 use Rattle.capability.specs.declared.Sought.{Sought}
 use Rattle.header.specs.declared.Parsed.{Parsed}
@@ -26,11 +26,11 @@ module _ (cdb s : Bytes) (p : Parsed) (on : Record) (g : Range) (w : Sought) (ew
   in_cdb_lem e = rw (← of_both true e)
 
   module _ (e : false ≡ admits_in w g (part 80 104 cdb)) where
-    pub in_neither : p.found.extension ≡ Absent → Nowhere ≡ first_in cdb s p on g
+    pub in_neither : p.found.extension ≡ None → Nowhere ≡ first_in cdb s p on g
     unfolding first_in
     in_neither f = rw (← of_both false e, f)
 
-    pub in_extension : (d : Part) → p.found.extension ≡ At d → (v : Place) → v ≡ first_from (admits_in w g) s d → v ≡ first_in cdb s p on g
+    pub in_extension : (d : Part) → p.found.extension ≡ Some d → (v : Place) → v ≡ first_from (admits_in w g) s d → v ≡ first_in cdb s p on g
     unfolding first_in
     in_extension d f v i = rw (← of_both false e, f) (i ∙ ap (λ (x : Sought). first_from (admits_in x g) s d) ew)
 

@@ -1,14 +1,13 @@
 -- What the search finds is what the book says of the command that was read.
+use Rattle.std.specs.Prelude.{Option, None, Some}
+use Rattle.rules.specs.declared.Part.{Part}
 use Prim.Native.Nat.{ℕ, zero, suc, ◌+◌, ◌-◌, ◌*◌, ◌/◌, ◌≤◌}
 use mathlib.Core.Path.{◌≡◌, refl, ap, sym, ◌∙◌}
 use mathlib.Core.Bool.{Bool, true, false, cond}
-use mathlib.Core.Option.{some}
 use mathlib.Core.List.{List, [], ◌∷◌, map}
 use native.Mathlib.Omega.{arith}
 use lib.ListN.{length, take, length-take}
 use Rattle.rules.specs.declared.Range.{Range}
-use Rattle.rules.specs.declared.Spot.{Spot}
-use Rattle.rules.specs.declared.Spot.TheVariants.{Absent, At}
 use Rattle.rules.specs.declared.Verb.{Verb}
 use Rattle.rules.specs.Bytes.{Bytes, part}
 use Rattle.rules.specs.Tests.{first_of}
@@ -32,13 +31,13 @@ use Rattle.question.specs.Places.{place_of, first_at, first_from, first_spot, fi
 -- ---- the first that admits a range, of some capabilities in their order
 module _ (v : Verb) (c : Command) where
   -- one more in front: k stands at w
-  chosen : (g : Range) (k : Held) (ks : List Held) (w : Place) → place_of (some k) ≡ w → (rest : Place) → place_of (first_by v c g ks) ≡ rest
+  chosen : (g : Range) (k : Held) (ks : List Held) (w : Place) → place_of (Some k) ≡ w → (rest : Place) → place_of (first_by v c g ks) ≡ rest
       → place_of (first_by v c g (k ∷ ks)) ≡ cond (admits_in (sought_in v c) g k.bytes) w rest
   unfolding first_of
   chosen g k ks w is rest r = go (admits v c g k) (admits_is v c g k)
     where
       go : (b : Bool) → b ≡ admits_in (sought_in v c) g k.bytes
-          → place_of (cond b (some k) (first_by v c g ks)) ≡ cond (admits_in (sought_in v c) g k.bytes) w rest
+          → place_of (cond b (Some k) (first_by v c g ks)) ≡ cond (admits_in (sought_in v c) g k.bytes) w rest
       go true e = rw (← e) is
       go false e = rw (← e) r
 
@@ -48,10 +47,10 @@ module _ (v : Verb) (c : Command) where
   first_places g [] = refl
   first_places g (a ∷ ps) = chosen g (extension c a) (map (extension c) ps) (InOut a) refl _ (first_places g ps)
 
-  first_spot_lem : (g : Range) (x : Spot) → place_of (first_by v c g (extensions_of x c)) ≡ first_spot (admits_in (sought_in v c) g) (segment c) x
+  first_spot_lem : (g : Range) (x : Option Part) → place_of (first_by v c g (extensions_of x c)) ≡ first_spot (admits_in (sought_in v c) g) (segment c) x
   unfolding first_of first_from
-  first_spot_lem g Absent = refl
-  first_spot_lem g (At d) = first_places g (places_from (d.size / 104) d.at)
+  first_spot_lem g None = refl
+  first_spot_lem g (Some d) = first_places g (places_from (d.size / 104) d.at)
 
   -- the command's
   admitting_is : (g : Range) → place_of (admitting v c g) ≡ first_in c.cdb (segment c) (said_in v c) c.on g
@@ -68,7 +67,7 @@ module _ (c : Command) (p : Parsed) (s : Says c p) where
   unfolding question readable admitting_for
   says_question g = rw (s.passes, s.verb) (says_first g)
 
-pub refuses_question : (c : Command) (w : Rattle.rules.specs.declared.Refusal.Refusal) (g : Range) → first_of (header c) ≡ some w
+pub refuses_question : (c : Command) (w : Rattle.rules.specs.declared.Refusal.Refusal) (g : Range) → first_of (header c) ≡ Some w
     → Nowhere ≡ place_of (question c g)
 unfolding question readable
 refuses_question c w g e = rw e
@@ -90,10 +89,10 @@ place_inside t s (suc n) start at e = go (t (part start 104 s)) e (place_inside 
     go true q r = let z : start ≡ at = cc in omega arith
     go false q r = let z = r q in omega arith
 
-spot_inside : (t : Bytes → Bool) (s : Bytes) (x : Spot) (at : ℕ) → ExtensionAt s x → first_spot t s x ≡ InOut at → at + 104 ≤ length s
+spot_inside : (t : Bytes → Bool) (s : Bytes) (x : Option Part) (at : ℕ) → ExtensionAt s x → first_spot t s x ≡ InOut at → at + 104 ≤ length s
 unfolding first_from
-spot_inside t s Absent at l e = let z : ◌≡◌ {A = ℕ} 0 1 = cc in absurd (omega arith)
-spot_inside t s (At d) at l e = let k = place_inside t s (d.size / 104) d.at at e in let i = l.inside in omega arith
+spot_inside t s None at l e = let z : ◌≡◌ {A = ℕ} 0 1 = cc in absurd (omega arith)
+spot_inside t s (Some d) at l e = let k = place_inside t s (d.size / 104) d.at at e in let i = l.inside in omega arith
 
 module _ (c : Command) (g : Range) where
   -- a place is handed back of a command that was read alone

@@ -1,12 +1,9 @@
 -- What the question's functions answer, over a command that was read: the place of a capability in CDB or segment.
-use Rattle.std.specs.Prelude.{ℕ, ◌+◌, ◌/◌, ◌≡◌, Bool, cond, List, [], ◌∷◌}
+use Rattle.std.specs.Prelude.{Option, None, Some, ℕ, ◌+◌, ◌/◌, ◌≡◌, Bool, cond, List, [], ◌∷◌}
 use Rattle.std.specs.Borrow.{Bor}
-use Rattle.std.proofs.Math.Option.{Option, none, some}
 use Rattle.rules.specs.declared.Record.{Record}
 use Rattle.rules.specs.declared.Range.{Range}
 use Rattle.rules.specs.declared.Part.{Part}
-use Rattle.rules.specs.declared.Spot.{Spot}
-use Rattle.rules.specs.declared.Spot.TheVariants.{Absent, At}
 use Rattle.rules.specs.Bytes.{Bytes, part}
 use Rattle.rules.specs.Segment.{places_from}
 use Rattle.rules.specs.Reading.{Lent, in_cdb, in_out, Held}
@@ -21,8 +18,8 @@ place_in in_out at = InOut at
 
 -- where the capability stands that the book hands back
 abbrev pub place_of : Option Held → Place
-place_of none = Nowhere
-place_of (some h) = place_in h.lent h.at
+place_of None = Nowhere
+place_of (Some h) = place_in h.lent h.at
 
 -- the first capability of the extension that passes a test
 unfoldable pub first_at : (Bytes → Bool) → Bytes → List ℕ → Place
@@ -32,9 +29,9 @@ first_at t s (a ∷ ps) = cond (t (part a 104 s)) (InOut a) (first_at t s ps)
 unfoldable pub first_from : (Bytes → Bool) → Bytes → Part → Place
 first_from t s d = first_at t s (places_from (d.size / 104) d.at)
 
-abbrev pub first_spot : (Bytes → Bool) → Bytes → Spot → Place
-first_spot t s Absent = Nowhere
-first_spot t s (At d) = first_from t s d
+abbrev pub first_spot : (Bytes → Bool) → Bytes → Option Part → Place
+first_spot t s None = Nowhere
+first_spot t s (Some d) = first_from t s d
 
 -- the first capability of the command that admits a range
 unfoldable pub first_in : (cdb s : Bytes) → Parsed → Record → Range → Place

@@ -3,6 +3,8 @@
 -- `in_two_goes` and `goes_by_met` say what steps one at a time come to.
 -- From these: the same end and the same first fault, met by the reader (`same_end`, `same_fault`) and by the walk (`reaches_end`,
 -- `reaches_fault`), and the same descriptors in order (`list_stands`, `extension_stands`).
+use Rattle.std.specs.Prelude.{Result, Ok, Err, Option, None, Some}
+use Rattle.rules.specs.Segment.{fault, Walk, here, next, walk_from, walk}
 use Prim.Native.Nat.{ℕ, zero, suc, ◌+◌, ◌≤◌}
 use mathlib.Core.Path.{◌≡◌, refl, sym, ap, subst, ◌∙◌}
 use native.Mathlib.Omega.{arith}
@@ -10,14 +12,9 @@ use lib.ListN.{length}
 use Rattle.rules.specs.declared.Cause.{Cause}
 use Rattle.rules.specs.declared.Part.{Part}
 use Rattle.rules.specs.declared.Here.{Here}
-use Rattle.rules.specs.declared.Here.TheVariants.{End, Entries, Extensions, Fault}
-use Rattle.rules.specs.declared.Spot.{Spot}
-use Rattle.rules.specs.declared.Spot.TheVariants.{Absent, At}
+use Rattle.rules.specs.declared.Here.TheVariants.{End, Entries, Extensions}
 use Rattle.rules.specs.declared.Found.{Found}
-use Rattle.rules.specs.declared.Walk.{Walk}
-use Rattle.rules.specs.declared.Walk.TheVariants.{Whole, Broken}
 use Rattle.rules.specs.Bytes.{Bytes}
-use Rattle.rules.specs.Segment.{here, next, walk_from, walk}
 use Rattle.segment.specs.declared.Step.{Step}
 use Rattle.segment.specs.declared.Step.TheVariants.{Stop, On}
 use Rattle.segment.specs.Step.{unless_met, step_of, stepped}
@@ -91,29 +88,29 @@ the_rest n s = rest_from n s start
 
 -- ---- what the reader meets is the walk's step
 
-abbrev pub step_by : Here → Bytes → Position → Step
-step_by End s p = Stop (Whole p.found)
-step_by (Fault c) s p = Stop (Broken c p.at)
-step_by (Entries d) s p = On (next s p.at) (record { list = At d; extension = p.found.extension })
-step_by (Extensions d) s p = On (next s p.at) (record { list = p.found.list; extension = At d })
+abbrev pub step_by : Result Here Cause → Bytes → Position → Step
+step_by (Ok End) s p = Stop (Ok p.found)
+step_by (Err c) s p = Stop (Err (fault c p).at)
+step_by (Ok (Entries d)) s p = On (next s p.at) (record { list = Some d; extension = p.found.extension })
+step_by (Ok (Extensions d)) s p = On (next s p.at) (record { list = p.found.list; extension = Some d })
 
 pub step_met : (s : Bytes) (p : Position) → step_at s p ≡ step_by (met s p) s p
 unfolding met stepped
 step_met s p = cases (here s p.at)
   where
-    list : (m : Spot) (d : Part) → unless_met m p.at (step_by (Entries d) s p) ≡ step_by (newly m (Entries d)) s p
-    list Absent d = refl
-    list (At x) d = refl
+    list : (m : Option Part) (d : Part) → unless_met m p.at (step_by (Ok (Entries d)) s p) ≡ step_by (newly m (Ok (Entries d))) s p
+    list None d = refl
+    list (Some x) d = refl
 
-    extension : (m : Spot) (d : Part) → unless_met m p.at (step_by (Extensions d) s p) ≡ step_by (newly m (Extensions d)) s p
-    extension Absent d = refl
-    extension (At x) d = refl
+    extension : (m : Option Part) (d : Part) → unless_met m p.at (step_by (Ok (Extensions d)) s p) ≡ step_by (newly m (Ok (Extensions d))) s p
+    extension None d = refl
+    extension (Some x) d = refl
 
-    cases : (h : Here) → step_of h s p.at p.found ≡ step_by (met_by p.found h) s p
-    cases End = refl
-    cases (Fault c) = refl
-    cases (Entries d) = list p.found.list d
-    cases (Extensions d) = extension p.found.extension d
+    cases : (h : Result Here Cause) → step_of h s p.at p.found ≡ step_by (met_by p.found h) s p
+    cases (Ok End) = refl
+    cases (Err c) = refl
+    cases (Ok (Entries d)) = list p.found.list d
+    cases (Ok (Extensions d)) = extension p.found.extension d
 
 -- so one step goes where what is met says: behind a descriptor, with its data among what is found; it stays before the end and before a fault
 pub goes_by_met : (s : Bytes) (p : Position) → after 1 s p ≡ passed p (step_by (met s p) s p)
@@ -121,37 +118,37 @@ unfolding after
 goes_by_met s p = ap (passed p) (step_met s p)
 
 -- and what a step says of what was met
-says_whole : (h : Here) (s : Bytes) (p : Position) (f : Found) → step_by h s p ≡ Stop (Whole f) → (h ≡ End) × (p.found ≡ f)
-says_whole End s p f q = (refl, cc)
-says_whole (Fault c) s p f q = let z : ◌≡◌ {A = ℕ} 0 1 = cc in absurd (omega arith)
-says_whole (Entries d) s p f q = let z : ◌≡◌ {A = ℕ} 0 1 = cc in absurd (omega arith)
-says_whole (Extensions d) s p f q = let z : ◌≡◌ {A = ℕ} 0 1 = cc in absurd (omega arith)
+says_whole : (h : Result Here Cause) (s : Bytes) (p : Position) (f : Found) → step_by h s p ≡ Stop (Ok f) → (h ≡ Ok End) × (p.found ≡ f)
+says_whole (Ok End) s p f q = (refl, cc)
+says_whole (Err c) s p f q = let z : ◌≡◌ {A = ℕ} 0 1 = cc in absurd (omega arith)
+says_whole (Ok (Entries d)) s p f q = let z : ◌≡◌ {A = ℕ} 0 1 = cc in absurd (omega arith)
+says_whole (Ok (Extensions d)) s p f q = let z : ◌≡◌ {A = ℕ} 0 1 = cc in absurd (omega arith)
 
-says_broken : (h : Here) (s : Bytes) (p : Position) (c : Cause) (at : ℕ) → step_by h s p ≡ Stop (Broken c at) → (h ≡ Fault c) × (p.at ≡ at)
-says_broken End s p c at q = let z : ◌≡◌ {A = ℕ} 0 1 = cc in absurd (omega arith)
-says_broken (Fault k) s p c at q = (cc, cc)
-says_broken (Entries d) s p c at q = let z : ◌≡◌ {A = ℕ} 0 1 = cc in absurd (omega arith)
-says_broken (Extensions d) s p c at q = let z : ◌≡◌ {A = ℕ} 0 1 = cc in absurd (omega arith)
+says_broken : (h : Result Here Cause) (s : Bytes) (p : Position) (c : Cause) (at : ℕ) → step_by h s p ≡ Stop (Err (fault c at)) → (h ≡ Err c) × (p.at ≡ at)
+says_broken (Ok End) s p c at q = let z : ◌≡◌ {A = ℕ} 0 1 = cc in absurd (omega arith)
+says_broken (Err k) s p c at q = (cc, cc)
+says_broken (Ok (Entries d)) s p c at q = let z : ◌≡◌ {A = ℕ} 0 1 = cc in absurd (omega arith)
+says_broken (Ok (Extensions d)) s p c at q = let z : ◌≡◌ {A = ℕ} 0 1 = cc in absurd (omega arith)
 
-says_on : (h : Here) (s : Bytes) (p : Position) (at : ℕ) (f : Found) → step_by h s p ≡ On at f → at ≡ next s p.at
-says_on End s p at f q = let z : ◌≡◌ {A = ℕ} 0 1 = cc in absurd (omega arith)
-says_on (Fault c) s p at f q = let z : ◌≡◌ {A = ℕ} 0 1 = cc in absurd (omega arith)
-says_on (Entries d) s p at f q = cc
-says_on (Extensions d) s p at f q = cc
+says_on : (h : Result Here Cause) (s : Bytes) (p : Position) (at : ℕ) (f : Found) → step_by h s p ≡ On at f → at ≡ next s p.at
+says_on (Ok End) s p at f q = let z : ◌≡◌ {A = ℕ} 0 1 = cc in absurd (omega arith)
+says_on (Err c) s p at f q = let z : ◌≡◌ {A = ℕ} 0 1 = cc in absurd (omega arith)
+says_on (Ok (Entries d)) s p at f q = cc
+says_on (Ok (Extensions d)) s p at f q = cc
 
-met_so : (s : Bytes) (p : Position) (h : Here) → met s p ≡ h → step_at s p ≡ step_by h s p
-met_so s p h q = step_met s p ∙ ap (λ (k : Here). step_by k s p) q
+met_so : (s : Bytes) (p : Position) (h : Result Here Cause) → met s p ≡ h → step_at s p ≡ step_by h s p
+met_so s p h q = step_met s p ∙ ap (λ (k : Result Here Cause). step_by k s p) q
 
 -- ---- the same end, and the same first fault with where it stands
 
 stops_so : (n : ℕ) (s : Bytes) (w : Walk) → step_at s (after n s start) ≡ Stop w → walk s ≡ w
 stops_so n s w q = let p : Position = after n s start in sym (the_rest n s) ∙ stops s p.at p.found (step_at s p) refl w q
 
-pub same_end : (n : ℕ) (s : Bytes) → met s (after n s start) ≡ End → walk s ≡ Whole (after n s start).found
-same_end n s q = stops_so n s _ (met_so s (after n s start) End q)
+pub same_end : (n : ℕ) (s : Bytes) → met s (after n s start) ≡ Ok End → walk s ≡ Ok (after n s start).found
+same_end n s q = stops_so n s _ (met_so s (after n s start) (Ok End) q)
 
-pub same_fault : (n : ℕ) (s : Bytes) (c : Cause) → met s (after n s start) ≡ Fault c → walk s ≡ Broken c (after n s start).at
-same_fault n s c q = stops_so n s _ (met_so s (after n s start) (Fault c) q)
+pub same_fault : (n : ℕ) (s : Bytes) (c : Cause) → met s (after n s start) ≡ Err c → walk s ≡ Err (fault c (after n s start)).at
+same_fault n s c q = stops_so n s _ (met_so s (after n s start) (Err c) q)
 
 -- A step that goes on comes further and stays inside the segment. So as many steps as there are bytes left come to where the walk stops.
 record Stops (s : Bytes) (p : Position) : Type 0 where
@@ -182,10 +179,10 @@ last_stops s =
     let t = comes_to_stop (length s) s start (omega arith) in
     t.stands ∙ ap Stop (sym (stops_so (length s) s t.outcome t.stands))
 
-pub reaches_end : (s : Bytes) (f : Found) → walk s ≡ Whole f → (met s (last s) ≡ End) × ((last s).found ≡ f)
+pub reaches_end : (s : Bytes) (f : Found) → walk s ≡ Ok f → (met s (last s) ≡ Ok End) × ((last s).found ≡ f)
 reaches_end s f q = says_whole (met s (last s)) s (last s) f (sym (step_met s (last s)) ∙ last_stops s ∙ ap Stop q)
 
-pub reaches_fault : (s : Bytes) (c : Cause) (at : ℕ) → walk s ≡ Broken c at → (met s (last s) ≡ Fault c) × ((last s).at ≡ at)
+pub reaches_fault : (s : Bytes) (c : Cause) (at : ℕ) → walk s ≡ Err (fault c at) → (met s (last s) ≡ Err c) × ((last s).at ≡ at)
 reaches_fault s c at q = says_broken (met s (last s)) s (last s) c at (sym (step_met s (last s)) ∙ last_stops s ∙ ap Stop q)
 
 -- ---- the same descriptors in order
@@ -201,34 +198,34 @@ passes n s p =
     n p
 
 -- what is met is what stands there, where it is no fault
-pub record Stands (n : ℕ) (s : Bytes) (h : Here) : Type 0 where
+pub record Stands (n : ℕ) (s : Bytes) (h : Result Here Cause) : Type 0 where
   pub at : (after n s start).at ≡ behind n s 40
   pub is : here s (behind n s 40) ≡ h
 
-unfaulted : (f : Found) (k h : Here) → met_by f k ≡ h → ((c : Cause) → h ≡ Fault c → ⊥) → k ≡ h
-unfaulted f End h q sound = q
-unfaulted f (Fault c) h q sound = q
-unfaulted f (Entries d) h q sound = cases f.list q
+unfaulted : (f : Found) (k h : Result Here Cause) → met_by f k ≡ h → ((c : Cause) → h ≡ Err c → ⊥) → k ≡ h
+unfaulted f (Ok End) h q sound = q
+unfaulted f (Err c) h q sound = q
+unfaulted f (Ok (Entries d)) h q sound = cases f.list q
   where
-    cases : (m : Spot) → newly m (Entries d) ≡ h → Entries d ≡ h
-    cases Absent e = e
-    cases (At x) e = absurd (sound _ (sym e))
-unfaulted f (Extensions d) h q sound = cases f.extension q
+    cases : (m : Option Part) → newly m (Ok (Entries d)) ≡ h → Ok (Entries d) ≡ h
+    cases None e = e
+    cases (Some x) e = absurd (sound _ (sym e))
+unfaulted f (Ok (Extensions d)) h q sound = cases f.extension q
   where
-    cases : (m : Spot) → newly m (Extensions d) ≡ h → Extensions d ≡ h
-    cases Absent e = e
-    cases (At x) e = absurd (sound _ (sym e))
+    cases : (m : Option Part) → newly m (Ok (Extensions d)) ≡ h → Ok (Extensions d) ≡ h
+    cases None e = e
+    cases (Some x) e = absurd (sound _ (sym e))
 
-stands : (n : ℕ) (s : Bytes) (h : Here) (at : ℕ) (f : Found) → met s (after n s start) ≡ h → step_at s (after n s start) ≡ On at f
-    → ((c : Cause) → h ≡ Fault c → ⊥) → Stands n s h
+stands : (n : ℕ) (s : Bytes) (h : Result Here Cause) (at : ℕ) (f : Found) → met s (after n s start) ≡ h → step_at s (after n s start) ≡ On at f
+    → ((c : Cause) → h ≡ Err c → ⊥) → Stands n s h
 unfolding met
 stands n s h at f m q sound =
     let p : Position = after n s start in
     let k : p.at ≡ behind n s 40 = passes n s start at f q in
     record { at = k; is = ap (here s) (sym k) ∙ unfaulted p.found (here s p.at) h m sound }
 
-pub list_stands : (n : ℕ) (s : Bytes) (d : Part) → met s (after n s start) ≡ Entries d → Stands n s (Entries d)
-list_stands n s d m = stands n s (Entries d) _ _ m (met_so s (after n s start) (Entries d) m) (λ c e. (let z : ◌≡◌ {A = ℕ} 0 1 = cc in omega arith))
+pub list_stands : (n : ℕ) (s : Bytes) (d : Part) → met s (after n s start) ≡ Ok (Entries d) → Stands n s (Ok (Entries d))
+list_stands n s d m = stands n s (Ok (Entries d)) _ _ m (met_so s (after n s start) (Ok (Entries d)) m) (λ c e. (let z : ◌≡◌ {A = ℕ} 0 1 = cc in omega arith))
 
-pub extension_stands : (n : ℕ) (s : Bytes) (d : Part) → met s (after n s start) ≡ Extensions d → Stands n s (Extensions d)
-extension_stands n s d m = stands n s (Extensions d) _ _ m (met_so s (after n s start) (Extensions d) m) (λ c e. (let z : ◌≡◌ {A = ℕ} 0 1 = cc in omega arith))
+pub extension_stands : (n : ℕ) (s : Bytes) (d : Part) → met s (after n s start) ≡ Ok (Extensions d) → Stands n s (Ok (Extensions d))
+extension_stands n s d m = stands n s (Ok (Extensions d)) _ _ m (met_so s (after n s start) (Ok (Extensions d)) m) (λ c e. (let z : ◌≡◌ {A = ℕ} 0 1 = cc in omega arith))

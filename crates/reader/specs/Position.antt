@@ -1,10 +1,10 @@
 -- Positions of the walk over a segment's descriptors: the first, what the walk meets at one, where some steps come to, and the bytes left from there on.
-use Rattle.std.specs.Prelude.{ℕ, zero, suc, ◌-◌, length}
+use Rattle.std.specs.Prelude.{Result, Ok, Err, Option, None, Some, ℕ, zero, suc, ◌-◌, length}
+use Rattle.rules.specs.declared.Cause.{Cause}
+use Rattle.rules.specs.declared.Part.{Part}
 use Rattle.rules.specs.declared.Cause.TheVariants.{Repeated}
 use Rattle.rules.specs.declared.Here.{Here}
-use Rattle.rules.specs.declared.Here.TheVariants.{End, Entries, Extensions, Fault}
-use Rattle.rules.specs.declared.Spot.{Spot}
-use Rattle.rules.specs.declared.Spot.TheVariants.{Absent, At}
+use Rattle.rules.specs.declared.Here.TheVariants.{End, Entries, Extensions}
 use Rattle.rules.specs.declared.Found.{Found}
 use Rattle.rules.specs.Bytes.{Bytes}
 use Rattle.rules.specs.Segment.{here, next, nothing}
@@ -18,18 +18,18 @@ abbrev pub start : Position
 start = record { at = 40; found = nothing }
 
 -- a descriptor whose type was met before is a fault
-abbrev pub newly : Spot → Here → Here
-newly Absent h = h
-newly (At d) h = Fault Repeated
+abbrev pub newly : Option Part → Result Here Cause → Result Here Cause
+newly None h = h
+newly (Some d) h = Err Repeated
 
-abbrev pub met_by : Found → Here → Here
-met_by f End = End
-met_by f (Fault c) = Fault c
-met_by f (Entries d) = newly f.list (Entries d)
-met_by f (Extensions d) = newly f.extension (Extensions d)
+abbrev pub met_by : Found → Result Here Cause → Result Here Cause
+met_by f (Ok End) = Ok End
+met_by f (Err c) = Err c
+met_by f (Ok (Entries d)) = newly f.list (Ok (Entries d))
+met_by f (Ok (Extensions d)) = newly f.extension (Ok (Extensions d))
 
 -- what the walk meets at a position
-unfoldable pub met : Bytes → Position → Here
+unfoldable pub met : Bytes → Position → Result Here Cause
 met s p = met_by p.found (here s p.at)
 
 -- the position behind what stands at p, or p itself where the walk stops

@@ -1,15 +1,15 @@
 -- What is known of a request that the writer doesn't refuse.
+use Rattle.std.specs.Prelude.{is_some, None, Some}
 use Prim.Native.Nat.{ℕ, ◌%◌, ◌^◌, ◌≤◌, ◌<◌}
 use mathlib.Core.Path.{◌≡◌, refl}
 use mathlib.Core.Bool.{Bool, true, false, cond, ◌&&◌, ◌||◌, not, false≢true}
-use mathlib.Core.Option.{none, some}
 use native.Mathlib.Omega.{arith}
 use lib.ListN.{length}
 use lib.Dec.{eqb, ltb}
 use borrow.Author.Tests.{ltb-false, leb-false, eqb-true, eqb-false, not-false}
 use Rattle.rules.specs.declared.Verb.{Verb}
 use Rattle.rules.specs.declared.Verb.TheVariants.{Read, Write, Clear, Punch}
-use Rattle.rules.specs.Tests.{first_of, is_some}
+use Rattle.rules.specs.Tests.{first_of}
 use Rattle.rules.specs.Command.{READ, WRITE, CLEAR, PUNCH, verb_of, asks, is_write, is_clear, is_punch}
 use Rattle.rules.specs.Ranges.{total, overlapping}
 use Rattle.rules.specs.Writer.{Request, entries, segment_for, refusals}
@@ -22,7 +22,7 @@ unfolding verb_of first_of
 fits_field a e = go (eqb a READ) (eqb a WRITE) (eqb a CLEAR) (eqb a PUNCH) refl refl refl refl e
   where
     go : (r w c p : Bool) → eqb a READ ≡ r → eqb a WRITE ≡ w → eqb a CLEAR ≡ c → eqb a PUNCH ≡ p
-        → is_some (cond r (some Read) (cond w (some Write) (cond c (some Clear) (cond p (some Punch) none)))) ≡ true → a < 65536
+        → is_some (cond r (Some Read) (cond w (Some Write) (cond c (Some Clear) (cond p (Some Punch) None)))) ≡ true → a < 65536
     go true w c p e f g h k = omega (arith, eqb-true a READ e)
     go false true c p e f g h k = omega (arith, eqb-true a WRITE f)
     go false false true p e f g h k = omega (arith, eqb-true a CLEAR g)
@@ -52,7 +52,7 @@ under_both : (l a b : Bool) → (l && a && b) ≡ false → l ≡ true → (a &&
 under_both true a b e h = e
 under_both false a b e h = let z : ◌≡◌ {A = ℕ} 0 1 = cc in absurd (omega arith)
 
-pub accepted : (q : Request) (cdb_room segment_room : ℕ) → first_of (refusals q cdb_room segment_room) ≡ none
+pub accepted : (q : Request) (cdb_room segment_room : ℕ) → first_of (refusals q cdb_room segment_room) ≡ None
     → Accepted q × (236 ≤ cdb_room) × (length (segment_for q) ≤ segment_room)
 unfolding refusals
 accepted q c s e =

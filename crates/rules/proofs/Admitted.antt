@@ -1,16 +1,15 @@
 -- Admission, position by position: a command that no row refuses touches only positions that its capabilities let it touch.
+use Rattle.std.specs.Prelude.{Option, None, Some}
+use Rattle.rules.specs.declared.Part.{Part}
 use Prim.Native.Nat.{ℕ}
 use mathlib.Core.Path.{◌≡◌, refl, ap}
 use mathlib.Core.Bool.{Bool, true, ◌&&◌}
-use mathlib.Core.Option.{some}
 use mathlib.Core.List.{List, ◌∷◌}
 use native.Mathlib.Omega.{arith}
 use lib.Dec.{leb, ltb}
 use borrow.Author.Tests.{leb-true, ltb-true, le-leb, lt-ltb, not-false}
 use Rattle.rules.specs.declared.Record.{Record}
 use Rattle.rules.specs.declared.Range.{Range}
-use Rattle.rules.specs.declared.Spot.{Spot}
-use Rattle.rules.specs.declared.Spot.TheVariants.{Absent, At}
 use Rattle.rules.specs.declared.Verb.{Verb}
 use Rattle.rules.specs.declared.Verb.TheVariants.{Write, Clear}
 use Rattle.rules.specs.Bytes.{Bytes, any}
@@ -19,9 +18,7 @@ use Rattle.rules.specs.Command.{Command, verb, segment}
 use Rattle.rules.specs.Ranges.{end, covered}
 use Rattle.rules.specs.Capability.{permits, tagged, current, matches, allowed_start, bound, inside, has}
 use Rattle.rules.specs.Reading.{Held, walked, found, listed, ranges, solo, extension, extensions_of, capabilities}
-use Rattle.rules.specs.Header.{cdb_malformed, action_unknown, other_object, continued, continuation_wrong, segment_header_wrong}
-use Rattle.rules.specs.Header.{descriptor_faulty, list_forbidden}
-use Rattle.rules.specs.Header.{front_rows, segment_rows, header, readable}
+use Rattle.rules.specs.Header.{cdb_malformed, action_unknown, other_object, continued, continuation_wrong, segment_header_wrong, descriptor_faulty, list_forbidden, front_rows, segment_rows, header, readable}
 use Rattle.rules.specs.Admission.{fits, admits, admitting, admitted}
 use Rattle.rules.specs.Rows.{Room, not_admitted}
 use Rattle.rules.specs.Answer.{lengthened}
@@ -46,7 +43,7 @@ has_all g k p i o =
     let (from, below) = and_true_parts (leb g.start p) (ltb p (end g)) o in
     rw (le-leb (allowed_start k) p (omega (arith, leb-true)), lt-ltb p (bound k) (omega (arith, leb-true, ltb-true)))
 
-pub touches_allowed : (v : Verb) (c : Command) (m : Room) (p : ℕ) → Passed c m → verb c ≡ some v → covered (ranges c) p ≡ true → allows v c p ≡ true
+pub touches_allowed : (v : Verb) (c : Command) (m : Room) (p : ℕ) → Passed c m → verb c ≡ Some v → covered (ranges c) p ≡ true → allows v c p ≡ true
 unfolding not_admitted admitted admitting admits covered
 touches_allowed v c m p q e h =
     let a = and_true_parts (any (fits v c) (capabilities c)) _ (not-false _ (rw e at q.admitted)) in
@@ -66,9 +63,9 @@ held_alike : (x : Sent) (r r' : Record) → capabilities (meets x r) ≡ capabil
 unfolding capabilities solo found walked meets segment extension
 held_alike x r r' = ap (λ (ks : List Held). solo (meets x r) ∷ ks) (go (found (meets x r)).extension)
   where
-    go : (e : Spot) → extensions_of e (meets x r) ≡ extensions_of e (meets x r')
-    go Absent = refl
-    go (At d) = refl
+    go : (e : Option Part) → extensions_of e (meets x r) ≡ extensions_of e (meets x r')
+    go None = refl
+    go (Some d) = refl
 
 -- logical length is nothing that rows 2 to 8 or a capability look at
 pub length_aside : (v : Verb) (r : Record) (n p : ℕ) (x : Sent) → lets v (lengthened r n) p x ≡ lets v r p x

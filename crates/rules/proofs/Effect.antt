@@ -1,10 +1,10 @@
 -- Demand 3's laws of a single command that isn't PUNCH: what it does to the object at a position, and what its answer depends on.
 -- The object's bytes are read as all bytes are: behind its end each is zero, which is what a gap becomes.
+use Rattle.std.specs.Prelude.{None, Some}
 use Prim.Native.Nat.{ℕ, ◌+◌, ◌≤◌, ◌<◌}
 use mathlib.Core.Path.{◌≡◌, refl, sym, ◌∙◌}
 use mathlib.Core.Logic.{◌⊎◌, inl, inr}
 use mathlib.Core.Bool.{Bool, true, false, false≢true}
-use mathlib.Core.Option.{none, some}
 use mathlib.Core.List.{List, [], ◌∷◌}
 use native.Mathlib.Omega.{arith}
 use lib.ListN.{length, take, drop, length-take, length-drop, get_or-eq_default}
@@ -36,7 +36,7 @@ pub behind : (n : ℕ) (s : Bytes) (p : ℕ) → n ≤ p → byte p (take n s) �
 behind n s p h = get_or-eq_default (take n s) 0 (rw length-take (omega arith))
 
 -- a command that doesn't ask for PUNCH isn't PUNCH
-unpunched : (c : Command) → asks (verb c) is_punch ≡ false → verb c ≡ some Punch → ⊥
+unpunched : (c : Command) → asks (verb c) is_punch ≡ false → verb c ≡ Some Punch → ⊥
 unpunched c n e = false≢true (sym (rw e at n))
 
 -- ---- WRITE and CLEAR
@@ -70,7 +70,7 @@ spares c s i other p f = go (course c s i)
     untouched : (covered (ranges c) p ≡ true → allows Write c p ≡ true) → covered (ranges c) p ≡ false
     untouched only = fails _ (λ h. false≢true (sym f ∙ only h))
 
-    carry : (v : Verb) → refusal c (room_of s i) ≡ none → verb c ≡ some v → byte p (left (answered c s i)) ≡ byte p (object c s)
+    carry : (v : Verb) → refusal c (room_of s i) ≡ None → verb c ≡ Some v → byte p (left (answered c s i)) ≡ byte p (object c s)
     carry Read e h = let law = read c s i e h in idle (answered c s i) law.next law.slice
     carry Write e h = outside c _ s i _ (write c s i e h) p (untouched (touches_allowed Write c _ p (passed c _ e) h))
     carry Clear e h =
@@ -142,7 +142,7 @@ twins c s s' i other size same = go (course c s i)
     Both : Type 0
     Both = Twins c s s' (answered c s i) (answered c s' i)
 
-    carry : (v : Verb) → refusal c (room_of s i) ≡ none → refusal c (room_of s' i) ≡ none → verb c ≡ some v → Both
+    carry : (v : Verb) → refusal c (room_of s i) ≡ None → refusal c (room_of s' i) ≡ None → verb c ≡ Some v → Both
     carry Read e e' h =
         let whole : length (object c s) ≡ length (object c s') = simp (length-take, size) in
         let q = passed c (room_of s i) e in
@@ -155,6 +155,6 @@ twins c s s' i other size same = go (course c s i)
     -- the rows see the slice's size alone
     go : Course c s i → Both
     go (refusing w e a) =
-        let e' : refusal c (room_of s' i) ≡ some w = rw (← size) e in
+        let e' : refusal c (room_of s' i) ≡ Some w = rw (← size) e in
         rw (e, e') (record { answer = refl; input = refl; agree = λ p same. same })
     go (carrying v e h a) = carry v e (rw (← size) e) h

@@ -1,8 +1,8 @@
 -- Law 6: what every call, whatever it ends with, leaves of the record and of the slice's size.
+use Rattle.std.specs.Prelude.{None, Some}
 use Prim.Native.Nat.{◌≤◌, ◌<◌}
 use mathlib.Core.Path.{◌≡◌, refl, sym, ap, ◌∙◌}
 use mathlib.Core.Logic.{⊎_elim}
-use mathlib.Core.Option.{none, some}
 use mathlib.Core.Bool.{true, ◌||◌}
 use lib.ListN.{length}
 use native.Mathlib.Omega.{arith}
@@ -39,7 +39,7 @@ same c s a n e =
     record { only_length = n ∙ ap (lengthened c.on) (sym l); size = ap length e; inside = λ h. omega arith; bounded = λ h. omega arith }
 
 -- a length that a row has let through
-longer : (c : Command) (s i : Bytes) (v : Verb) (d : Bytes) → refusal c (room_of s i) ≡ none → verb c ≡ some v → is_write v || is_clear v ≡ true
+longer : (c : Command) (s i : Bytes) (v : Verb) (d : Bytes) → refusal c (room_of s i) ≡ None → verb c ≡ Some v → is_write v || is_clear v ≡ true
     → Wrote c d s i (answered c s i) → Kept c s (answered c s i)
 longer c s i v d e h w law =
     let l : (answered c s i).answer.next.length ≡ raised c = ap (λ (r : Record). r.length) law.length_new in
@@ -57,7 +57,7 @@ longer c s i v d e h w law =
 pub law6 : (c : Command) (s i : Bytes) → Kept c s (answered c s i)
 law6 c s i = go (course c s i)
   where
-    carry : (v : Verb) → refusal c (room_of s i) ≡ none → verb c ≡ some v → Kept c s (answered c s i)
+    carry : (v : Verb) → refusal c (room_of s i) ≡ None → verb c ≡ Some v → Kept c s (answered c s i)
     carry Read e h = let law = read c s i e h in same c s (answered c s i) law.next law.slice
     carry Write e h = longer c s i Write _ e h refl (write c s i e h)
     carry Clear e h = longer c s i Clear _ e h refl (clear c s i e h)

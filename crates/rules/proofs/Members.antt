@@ -1,10 +1,10 @@
 -- Tests of a list's elements, read by its members.
+use Rattle.std.specs.Prelude.{is_some, Option, Some}
 use mathlib.Core.Path.{◌≡◌, refl, sym, ◌∙◌}
 use mathlib.Core.Bool.{Bool, true, false, cond, ◌||◌, false≢true, or-true}
-use mathlib.Core.Option.{Option, some}
 use mathlib.Core.List.{List, [], ◌∷◌, map, Memᴰ}
 use Rattle.rules.specs.Bytes.{any, all}
-use Rattle.rules.specs.Tests.{test, first_of, is_some}
+use Rattle.rules.specs.Tests.{test, first_of}
 use Rattle.rules.proofs.Booleans.{or_right, and_true_parts, fails}
 
 module _ {ℓ} {X : Type ℓ} (f : X → Bool) where
@@ -42,6 +42,6 @@ some_passes {X} f (x ∷ xs) = go (f x) (some_passes f xs)
     later : Option X
     later = first_of (map (λ (x : X). test x (f x)) xs)
 
-    go : (b : Bool) → is_some later ≡ any f xs → is_some (cond b (some x) later) ≡ (b || any f xs)
+    go : (b : Bool) → is_some later ≡ any f xs → is_some (cond b (Some x) later) ≡ (b || any f xs)
     go true e = refl
     go false e = e

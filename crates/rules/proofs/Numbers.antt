@@ -1,13 +1,13 @@
 -- Law 1: each of 1 to 14 is given exactly when its row holds and none before it does; 15 exactly when a READ passes all and is short; else 0.
 -- Law 2: a refusal has count 0 and the record given, and leaves slice and Data-In byte for byte as they were.
+use Rattle.std.specs.Prelude.{slice_get, None, Some}
 use Prim.Native.Nat.{ℕ, zero, suc, ◌+◌, ◌≤◌, ◌<◌}
 use native.Mathlib.Omega.{arith}
 use mathlib.Core.Logic.{◌↔◌, ◌⊎◌, inl, inr, ⊎_elim}
 use mathlib.Core.Path.{◌≡◌, refl, ap, sym, ◌∙◌, subst}
 use mathlib.Core.Bool.{Bool, true, false, true≢false, false≢true}
-use mathlib.Core.Option.{none, some, some-injective}
 use mathlib.Core.List.{List, [], ◌∷◌, map}
-use lib.ListN.{length, get_elem?}
+use lib.ListN.{length}
 use lib.Dec.{ltb}
 use borrow.Author.Tests.{ltb-true, ltb-false}
 use Rattle.rules.specs.declared.Verb.{Verb}
@@ -31,20 +31,20 @@ pub numbered : (c : Command) (m : Room) → map (λ (w : Test Refusal). row w.gi
 unfolding rows header front_rows segment_rows span
 numbered c m = refl
 
-span_value : (b n k v : ℕ) → get_elem? (span b n) k ≡ some v → (v ≡ b + k) × (k < n)
+span_value : (b n k v : ℕ) → slice_get (span b n) k ≡ Some v → (v ≡ b + k) × (k < n)
 unfolding span
 span_value b zero k v e = absurd (some_none (sym e))
 span_value b (suc n) zero v e = let h : v ≡ b = cc in (omega arith, omega arith)
 span_value b (suc n) (suc k) v e = let h = span_value (suc b) n k v e in (omega arith, omega arith)
 
-row_value : (ts : List (Test Refusal)) (k : ℕ) (w : Refusal) → gives_at ts k ≡ some w
-    → get_elem? (map (λ (t : Test Refusal). row t.gives) ts) k ≡ some (row w)
+row_value : (ts : List (Test Refusal)) (k : ℕ) (w : Refusal) → gives_at ts k ≡ Some w
+    → slice_get (map (λ (t : Test Refusal). row t.gives) ts) k ≡ Some (row w)
 row_value [] k w e = absurd (some_none (sym e))
-row_value (t ∷ ts) zero w e = let h : t.gives ≡ w = cc in ap (λ (r : Refusal). some (row r)) h
+row_value (t ∷ ts) zero w e = let h : t.gives ≡ w = cc in ap (λ (r : Refusal). Some (row r)) h
 row_value (t ∷ ts) (suc k) w e = row_value ts k w e
 
 -- the row at k refuses with the number k + 1, and there are 14 of them
-pub number_at : (c : Command) (m : Room) (k : ℕ) (w : Refusal) → gives_at (rows c m) k ≡ some w → (row w ≡ suc k) × (k < 14)
+pub number_at : (c : Command) (m : Room) (k : ℕ) (w : Refusal) → gives_at (rows c m) k ≡ Some w → (row w ≡ suc k) × (k < 14)
 number_at c m k w e =
     let h = rw (numbered c m) at (row_value (rows c m) k w e) in
     let v = span_value 1 14 k (row w) h in
@@ -82,11 +82,11 @@ pub record Numbered (c : Command) (s i : Bytes) : Type 0 where
   -- each of 1 to 14 is given exactly when its row holds and none before it does
   pub refusals : (k : ℕ) → k < 14 → (number_of c s i ≡ suc k) ↔ FirstHolds (rows c (room_of s i)) k
   -- 15 exactly when a READ passes all and is short
-  pub short : (number_of c s i ≡ 15) ↔ (NoneHolds (rows c (room_of s i)) × (verb c ≡ some Read) × (count_of c s i < length_of c.cdb))
+  pub short : (number_of c s i ≡ 15) ↔ (NoneHolds (rows c (room_of s i)) × (verb c ≡ Some Read) × (count_of c s i < length_of c.cdb))
   -- else 0
-  pub others : (number_of c s i ≡ 0) ↔ (NoneHolds (rows c (room_of s i)) × (verb c ≡ some Read → length_of c.cdb ≤ count_of c s i))
+  pub others : (number_of c s i ≡ 0) ↔ (NoneHolds (rows c (room_of s i)) × (verb c ≡ Some Read → length_of c.cdb ≤ count_of c s i))
 
-refusing_numbered : (c : Command) (s i : Bytes) (w : Refusal) → refusal c (room_of s i) ≡ some w → answered c s i ≡ refused w c s i → Numbered c s i
+refusing_numbered : (c : Command) (s i : Bytes) (w : Refusal) → refusal c (room_of s i) ≡ Some w → answered c s i ≡ refused w c s i → Numbered c s i
 unfolding refused refusal
 refusing_numbered c s i w e a =
     let ts = rows c (room_of s i) in
@@ -104,7 +104,7 @@ refusing_numbered c s i w e a =
       others = (λ q. absurd (omega arith), λ f. absurd (held f.0));
     }
 
-carrying_numbered : (c : Command) (s i : Bytes) (v : Verb) → refusal c (room_of s i) ≡ none → verb c ≡ some v
+carrying_numbered : (c : Command) (s i : Bytes) (v : Verb) → refusal c (room_of s i) ≡ None → verb c ≡ Some v
     → answered c s i ≡ carried v c s i → Numbered c s i
 unfolding refusal
 carrying_numbered c s i v e h a = go (ending v c s i)
@@ -124,15 +124,15 @@ carrying_numbered c s i v e h a = go (ending v c s i)
     never : (j : ℕ) → FirstHolds ts j → ⊥
     never j f = true≢false (sym f.holds ∙ none_holds j)
 
-    same : verb c ≡ some Read → v ≡ Read
-    same q = some-injective v Read (sym h ∙ q)
+    same : verb c ≡ Some Read → v ≡ Read
+    same q = let e : Some v ≡ Some Read = sym h ∙ q in cc
 
     go : Short v (length_of c.cdb) (carried v c s i) ⊎ Full v (length_of c.cdb) (carried v c s i) → Numbered c s i
     go (inl f) =
         record {
           refusals = λ j l. (λ q. absurd (omega (arith, n, f.1)), λ g. absurd (never j g));
-          short = (λ q. (none_holds, h ∙ ap some f.0, omega (arith, k, f.2)), λ g. n ∙ f.1);
-          others = (λ q. absurd (omega (arith, n, f.1)), λ g. absurd (omega (arith, k, f.2, g.1 (h ∙ ap some f.0))));
+          short = (λ q. (none_holds, h ∙ ap Some f.0, omega (arith, k, f.2)), λ g. n ∙ f.1);
+          others = (λ q. absurd (omega (arith, n, f.1)), λ g. absurd (omega (arith, k, f.2, g.1 (h ∙ ap Some f.0))));
         }
     go (inr f) =
         record {

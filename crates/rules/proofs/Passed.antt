@@ -1,21 +1,20 @@
 -- A call that no row refuses passes every row's test.
+use Rattle.std.specs.Prelude.{None, Some}
 use mathlib.Core.Path.{◌≡◌, refl}
 use mathlib.Core.Bool.{Bool, true, false, cond}
-use mathlib.Core.Option.{none, some}
 use mathlib.Core.List.{List, ◌∷◌}
 use Rattle.rules.specs.Tests.{Test, first_of}
 use Rattle.rules.specs.Command.{Command}
-use Rattle.rules.specs.Header.{cdb_malformed, action_unknown, other_object, continuation_wrong, segment_header_wrong, descriptor_faulty, list_forbidden}
-use Rattle.rules.specs.Header.{front_rows, segment_rows, header}
+use Rattle.rules.specs.Header.{cdb_malformed, action_unknown, other_object, continuation_wrong, segment_header_wrong, descriptor_faulty, list_forbidden, front_rows, segment_rows, header}
 use Rattle.rules.proofs.First.{some_none}
 use Rattle.rules.specs.Rows.{Room, object_unfit, list_with_start, list_fault, not_admitted, starts_beyond, buffer_short, no_room, rows, refusal}
 
 -- no first test: the one in front fails, and there is none behind it
-pub skips : {X : Type 0} (t : Test X) (ts : List (Test X)) → first_of (t ∷ ts) ≡ none → (t.holds ≡ false) × (first_of ts ≡ none)
+pub skips : {X : Type 0} (t : Test X) (ts : List (Test X)) → first_of (t ∷ ts) ≡ None → (t.holds ≡ false) × (first_of ts ≡ None)
 unfolding first_of
 skips t ts e = go t.holds e
   where
-    go : (b : Bool) → cond b (some t.gives) (first_of ts) ≡ none → (b ≡ false) × (first_of ts ≡ none)
+    go : (b : Bool) → cond b (Some t.gives) (first_of ts) ≡ None → (b ≡ false) × (first_of ts ≡ None)
     go true q = absurd (some_none q)
     go false q = (refl, q)
 
@@ -38,7 +37,7 @@ pub record Passed (c : Command) (m : Room) : Type 0 where
   pub buffer : buffer_short c m ≡ false
   pub room : no_room c m ≡ false
 
-pub passed : (c : Command) (m : Room) → refusal c m ≡ none → Passed c m
+pub passed : (c : Command) (m : Room) → refusal c m ≡ None → Passed c m
 unfolding refusal rows header front_rows segment_rows
 passed c m e =
     let r1 = skips _ _ e in
@@ -76,7 +75,7 @@ passed c m e =
     }
 
 -- the same of rows 2 to 8 alone
-pub header_passed : (c : Command) → first_of (header c) ≡ none → Readable c
+pub header_passed : (c : Command) → first_of (header c) ≡ None → Readable c
 unfolding header front_rows segment_rows
 header_passed c e =
     let r2 = skips _ _ e in

@@ -1,7 +1,7 @@
 -- Law 5, PUNCH: below the start as it was; what followed stands lower by the count; the freed tail is zero;
 -- at or above the old length as it was.
+use Rattle.std.specs.Prelude.{None, Some}
 use mathlib.Core.Path.{◌≡◌, refl, ap, ◌∙◌}
-use mathlib.Core.Option.{none, some}
 use mathlib.Core.List.{◌++◌}
 use Prim.Native.Nat.{ℕ, ◌+◌, ◌-◌, ◌≤◌, ◌<◌, min}
 use native.Mathlib.Omega.{arith}
@@ -123,7 +123,7 @@ module _ (g : Range) (n : ℕ) (s : Bytes) (begins : g.start ≤ n) (fits : n �
 -- ---- the law
 
 -- rows 8 and 12: PUNCH has one range, and it doesn't start above logical length
-pub begins_within : {c : Command} {m : Room} → Passed c m → verb c ≡ some Punch → (hole c).start ≤ old c
+pub begins_within : {c : Command} {m : Room} → Passed c m → verb c ≡ Some Punch → (hole c).start ≤ old c
 unfolding any
 begins_within {c} p v = ltb-false _ _ (or_false_parts (ltb (old c) (hole c).start) _ (rw (alone c (unlisted p Punch v refl)) at (begun p Punch v refl))).0
 
@@ -145,7 +145,7 @@ was_punched c s i b f =
       above = was_above (hole c) (old c) s b f;
     }
 
-pub punch : (c : Command) (s i : Bytes) → refusal c (room_of s i) ≡ none → verb c ≡ some Punch
+pub punch : (c : Command) (s i : Bytes) → refusal c (room_of s i) ≡ None → verb c ≡ Some Punch
     → Punched c s i (answered c s i)
 unfolding answered settled carried
 punch c s i e v = let p = passed c _ e in rw (e, v) (was_punched c s i (begins_within p v) (held p))

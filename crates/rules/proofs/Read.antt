@@ -1,9 +1,9 @@
 -- Law 3, READ: slice and record as they were; Data-In from the count on as it was; its first bytes are the ranges' bytes in list order
 -- up to the first position at or above logical length; 15 exactly when count is below LENGTH.
+use Rattle.std.specs.Prelude.{None, Some}
 use mathlib.Core.Path.{◌≡◌, refl, ap, ◌∙◌}
 use mathlib.Core.Logic.{◌↔◌}
 use mathlib.Core.Bool.{Bool, true, false, cond}
-use mathlib.Core.Option.{none, some}
 use mathlib.Core.List.{List, [], ◌∷◌, ◌++◌, map, map-append}
 use Prim.Native.Nat.{ℕ, zero, suc, ◌+◌, ◌≤◌, ◌<◌}
 use native.Mathlib.Omega.{arith}
@@ -144,7 +144,7 @@ was_read d c s i e few room =
       full = full_is (length d) (length_of c.cdb) few;
     }
 
-pub read : (c : Command) (s i : Bytes) → refusal c (room_of s i) ≡ none → verb c ≡ some Read
+pub read : (c : Command) (s i : Bytes) → refusal c (room_of s i) ≡ None → verb c ≡ Some Read
     → WasRead c s i (answered c s i)
 unfolding answered settled carried
 read c s i e v =

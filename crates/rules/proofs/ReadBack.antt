@@ -1,8 +1,8 @@
 -- Every accepted command is read back as it was given, and the rows on form don't refuse it.
+use Rattle.std.specs.Prelude.{Option, None, Some}
 use Prim.Native.Nat.{ℕ, ◌+◌, ◌<◌}
 use mathlib.Core.Path.{◌≡◌, refl, ap, sym, ◌∙◌}
 use mathlib.Core.Bool.{Bool, true, false, cond, ◌&&◌, ◌||◌, not, and-false}
-use mathlib.Core.Option.{Option, none, some, some-injective}
 use mathlib.Core.List.{List, [], ◌∷◌, ◌++◌}
 use native.Mathlib.Omega.{arith}
 use lib.Dec.{eqb, ltb}
@@ -14,16 +14,14 @@ use Rattle.rules.specs.Bytes.{Bytes, byte, field}
 use Rattle.rules.specs.Tests.{Test, first_of}
 use Rattle.rules.specs.Command.{action, continuation, verb_of, verb, asks, is_write, segment}
 use Rattle.rules.specs.Ranges.{total, overlapping}
-use Rattle.rules.specs.Header.{continued, cdb_malformed, action_unknown, other_object, continuation_wrong}
-use Rattle.rules.specs.Header.{segment_header_wrong, descriptor_faulty, list_forbidden}
+use Rattle.rules.specs.Header.{continued, cdb_malformed, action_unknown, other_object, continuation_wrong, segment_header_wrong, descriptor_faulty, list_forbidden}
 use Rattle.rules.specs.Rows.{list_with_start, list_fault}
 use Rattle.rules.specs.Writer.{Request, entries, length_for, segment_for, cdb_for, refusals, writes, written}
 use Rattle.rules.specs.ReadBack.{Bounded, ranges_for, sent, Same, ReadsBack}
 use Rattle.rules.proofs.Accepted.{Accepted, accepted, one_given, fits_field}
 use Rattle.rules.proofs.First.{some_none}
 use Rattle.rules.proofs.Standing.{field_there}
-use Rattle.rules.proofs.ReadBackFields.{action_read, partition_read, object_read, length_read, start_read}
-use Rattle.rules.proofs.ReadBackFields.{first_byte, eighth_byte, cdb_length}
+use Rattle.rules.proofs.ReadBackFields.{action_read, partition_read, object_read, length_read, start_read, first_byte, eighth_byte, cdb_length}
 use Rattle.rules.proofs.ReadBackShape.{whole, Shape, there, nowhere, shape, first_of_head, action_there, whole_bounds}
 use Rattle.rules.proofs.ReadBackRead.{as_command, continues, splits, follows, walks, lists, length_fits, ranges_same, capabilities_same}
 
@@ -141,25 +139,25 @@ abbrev NotZero : List (Test ℕ) → Type 0
 NotZero [] = Unit {0}
 NotZero (t ∷ ts) = (t.gives ≡ 0 → ⊥) × NotZero ts
 
-never_zero : (ts : List (Test ℕ)) → NotZero ts → (n : ℕ) → first_of ts ≡ some n → n ≡ 0 → ⊥
+never_zero : (ts : List (Test ℕ)) → NotZero ts → (n : ℕ) → first_of ts ≡ Some n → n ≡ 0 → ⊥
 unfolding first_of
 never_zero [] h n e z = some_none (sym e)
 never_zero (t ∷ ts) h n e z = go t.holds e (never_zero ts h.1 n)
   where
-    go : (b : Bool) → cond b (some t.gives) (first_of ts) ≡ some n → (first_of ts ≡ some n → n ≡ 0 → ⊥) → ⊥
-    go true f rec = h.0 (some-injective t.gives n f ∙ z)
+    go : (b : Bool) → cond b (Some t.gives) (first_of ts) ≡ Some n → (first_of ts ≡ Some n → n ≡ 0 → ⊥) → ⊥
+    go true f rec = let e : t.gives ≡ n = cc in h.0 (e ∙ z)
     go false f rec = rec f z
 
 module _ (q : Request) (cdb segment' : Bytes) where
   -- 0 means that nothing refuses the request
-  zero_accepts : (written q cdb segment').number ≡ 0 → first_of (refusals q (length cdb) (length segment')) ≡ none
+  zero_accepts : (written q cdb segment').number ≡ 0 → first_of (refusals q (length cdb) (length segment')) ≡ None
   unfolding written writes refusals
   zero_accepts e = go (first_of (refusals q (length cdb) (length segment'))) refl e
     where
       go : (o : Option ℕ) → first_of (refusals q (length cdb) (length segment')) ≡ o → (writes o q cdb segment').number ≡ 0
-          → first_of (refusals q (length cdb) (length segment')) ≡ none
-      go none f z = f
-      go (some n) f z = absurd (never_zero (refusals q (length cdb) (length segment')) not_zero n f z)
+          → first_of (refusals q (length cdb) (length segment')) ≡ None
+      go None f z = f
+      go (Some n) f z = absurd (never_zero (refusals q (length cdb) (length segment')) not_zero n f z)
         where
           not_zero : NotZero (refusals q (length cdb) (length segment'))
           not_zero = omega arith

@@ -1,7 +1,7 @@
 -- The tie between the halves: the engine's answer to a written command is the answer to the request itself.
+use Rattle.std.specs.Prelude.{is_some, Option, None, Some}
 use mathlib.Core.Path.{◌≡◌, refl, ap, sym, fun_ext, ◌∙◌}
 use mathlib.Core.Bool.{Bool, true, false, cond, ◌&&◌, ◌||◌, not, true≢false}
-use mathlib.Core.Option.{Option, none, some}
 use mathlib.Core.List.{List, [], ◌∷◌, map}
 use lib.ListN.{length}
 use lib.Dec.{ltb}
@@ -11,7 +11,7 @@ use Rattle.rules.specs.declared.Verb.{Verb}
 use Rattle.rules.specs.declared.Verb.TheVariants.{Read, Write, Clear, Punch}
 use Rattle.rules.specs.declared.Refusal.{Refusal}
 use Rattle.rules.specs.Bytes.{Bytes, any, all}
-use Rattle.rules.specs.Tests.{test, first_of, is_some}
+use Rattle.rules.specs.Tests.{test, first_of}
 use Rattle.rules.specs.Command.{verb_of, verb, asks, is_read, is_write, is_clear, is_punch, sole_range, partition_of, object_of}
 use Rattle.rules.specs.Capability.{matches, inside}
 use Rattle.rules.specs.Reading.{Held, capabilities}
@@ -21,8 +21,7 @@ use Rattle.rules.specs.Rows.{Room, object_unfit, not_admitted, starts_beyond, bu
 use Rattle.rules.specs.Answer.{refused, read, wrote, cut, carried, settled, answered}
 use Rattle.rules.specs.Writer.{Request, entries, length_for}
 use Rattle.rules.specs.Ranges.{total}
-use Rattle.rules.specs.ReadBack.{Same, ranges_for, capabilities_for, matches_for, admitted_for, raised_for}
-use Rattle.rules.specs.ReadBack.{rows_for, carried_for, settled_for, answered_for, Answers}
+use Rattle.rules.specs.ReadBack.{Same, ranges_for, capabilities_for, matches_for, admitted_for, raised_for, rows_for, carried_for, settled_for, answered_for, Answers}
 use Rattle.rules.proofs.Accepted.{Accepted}
 use Rattle.rules.proofs.ReadBackRead.{as_command}
 use Rattle.rules.proofs.ReadBack.{as_written, same}
@@ -40,12 +39,12 @@ first_any p [] = refl
 first_any p (k ∷ ks) = go (p k) (first_any p ks)
   where
     go : (b : Bool) → is_some (first_of (map (λ (k : Held). test k (p k)) ks)) ≡ any p ks
-        → is_some (cond b (some k) (first_of (map (λ (k : Held). test k (p k)) ks))) ≡ b || any p ks
+        → is_some (cond b (Some k) (first_of (map (λ (k : Held). test k (p k)) ks))) ≡ b || any p ks
     go true e = refl
     go false e = e
 
-module _ (q : Request) (d : Bytes) (r : Record) (v : Verb) (a : Accepted q) (k : Same q d (as_command q d r)) (is : verb_of q.action ≡ some v) where
-  named : verb (as_command q d r) ≡ some v
+module _ (q : Request) (d : Bytes) (r : Record) (v : Verb) (a : Accepted q) (k : Same q d (as_command q d r)) (is : verb_of q.action ≡ Some v) where
+  named : verb (as_command q d r) ≡ Some v
   named = k.action_is ∙ is
 
   -- ---- row 11
@@ -126,7 +125,7 @@ module _ (q : Request) (d : Bytes) (r : Record) (v : Verb) (a : Accepted q) (k :
       go : (l : Bool) → q.listed ≡ l
           → ◌≡◌ {A = Range} (record { start = q.start; size = cond l (total (entries q)) q.size }) (record { start = q.start; size = q.size })
       go false f = refl
-      go true f = absurd (true≢false (sym (ap (λ (o : Option Verb). asks o (λ (v : Verb). is_clear v || is_punch v)) (is ∙ ap some e)) ∙ a.may_list f))
+      go true f = absurd (true≢false (sym (ap (λ (o : Option Verb). asks o (λ (v : Verb). is_clear v || is_punch v)) (is ∙ ap Some e)) ∙ a.may_list f))
 
   does : (s i : Bytes) → carried v (as_command q d r) s i ≡ carried_for v q d r s i
   does s i = go v refl
@@ -143,9 +142,9 @@ module _ (q : Request) (d : Bytes) (r : Record) (v : Verb) (a : Accepted q) (k :
       let m : Room = record { slice = length s; input = length i } in
       rw (refuses m, named) (go (first_of (rows_for v q d r m)))
     where
-      go : (o : Option Refusal) → settled o (some v) (as_command q d r) s i ≡ settled_for o v q d r s i
-      go none = unfold settled settled_for in does s i
-      go (some w) = unfold settled settled_for refused in refl
+      go : (o : Option Refusal) → settled o (Some v) (as_command q d r) s i ≡ settled_for o v q d r s i
+      go None = unfold settled settled_for in does s i
+      go (Some w) = unfold settled settled_for refused in refl
 
 pub answers : Answers
 unfolding Answers

@@ -1,4 +1,5 @@
 -- A written command read: Data-Out splits where it was joined, and the walk, the ranges and the capabilities are what was given.
+use Rattle.std.specs.Prelude.{is_some, Ok, None, Some}
 use Prim.Native.Nat.{ℕ, suc, ◌+◌, ◌*◌, ◌-◌, ◌/◌, ◌^◌, ◌<◌}
 use mathlib.Core.Path.{◌≡◌, refl, ap, sym, ◌∙◌}
 use mathlib.Core.Bool.{Bool, true, false, cond, true≢false}
@@ -9,13 +10,11 @@ use lib.Seq.{take_at, drop_at}
 use borrow.Author.Tests.{eq-eqb, ne_eqb}
 use Rattle.rules.specs.declared.Record.{Record}
 use Rattle.rules.specs.declared.Part.{Part}
-use Rattle.rules.specs.declared.Spot.TheVariants.{Absent, At}
-use Rattle.rules.specs.declared.Walk.TheVariants.{Whole}
 use Rattle.rules.specs.Bytes.{Bytes}
 use Rattle.rules.specs.Command.{Command, length_of, continuation, segment, payload, sole_range}
 use Rattle.rules.specs.Ranges.{total}
-use Rattle.rules.specs.Segment.{nothing, places_from}
-use Rattle.rules.specs.Reading.{walked, found, present, listed, ranges_of, ranges, Held, solo, extensions_of, capabilities}
+use Rattle.rules.specs.Segment.{Walk, nothing, places_from}
+use Rattle.rules.specs.Reading.{walked, found, listed, ranges_of, ranges, Held, solo, extensions_of, capabilities}
 use Rattle.rules.specs.Writer.{Request, entries, length_for, extended, segment_for, cdb_for}
 use Rattle.rules.specs.ReadBack.{Bounded, ranges_for, pieces, capabilities_for, found_for}
 use Rattle.rules.proofs.Accepted.{Accepted, one_given}
@@ -24,8 +23,7 @@ use Rattle.rules.proofs.Standing.{Stands}
 use Rattle.rules.proofs.ReadBackWalk.{list_data, extension_data, walk_whole}
 use Rattle.rules.proofs.ReadBackParts.{small_paired, entries_there, pieces_there, held_bytes}
 use Rattle.rules.proofs.ReadBackFields.{length_read, start_read, continuation_read, capability_read}
-use Rattle.rules.proofs.ReadBackShape.{list_bytes, rest_bytes, head, whole, Shape, there, nowhere, shape, head_length, list_ok}
-use Rattle.rules.proofs.ReadBackShape.{no_more, extension_ok, whole_bounds, segment_small}
+use Rattle.rules.proofs.ReadBackShape.{list_bytes, rest_bytes, head, whole, Shape, there, nowhere, shape, head_length, list_ok, no_more, extension_ok, whole_bounds, segment_small}
 
 -- the command itself: CDB, and segment with command data behind it
 abbrev pub as_command : Request → (d : Bytes) → Record → Command
@@ -46,14 +44,14 @@ module _ (q : Request) (a : Accepted q) (d : Bytes) (r : Record) where
   -- ---- the walk
 
   absent : {l x : Bool} (p e : Part) → l ≡ false → x ≡ false
-      → Whole nothing ≡ Whole (record { list = cond l (At p) Absent; extension = cond x (At e) Absent })
+      → ◌≡◌ {A = Walk} (Ok nothing) (Ok (record { list = cond l (Some p) None; extension = cond x (Some e) None }))
   absent p e f g = rw (f, g)
 
-  pub walks : walked (as_command q d r) ≡ Whole (found_for q)
+  pub walks : walked (as_command q d r) ≡ Ok (found_for q)
   unfolding walked found_for whole
   walks = go (shape q)
     where
-      go : Shape q → walked (as_command q d r) ≡ Whole (found_for q)
+      go : Shape q → walked (as_command q d r) ≡ Ok (found_for q)
       go (there k) =
           let n : length (segment_for q) ≡ 0 → ⊥ = λ z. omega (arith, ap length k, whole_bounds q a) in
           let e = walk_whole (head q) (list_bytes q) (rest_bytes q) q.listed (extended q) (head_length q) (list_ok q a) (extension_ok q a) in
@@ -68,7 +66,7 @@ module _ (q : Request) (a : Accepted q) (d : Bytes) (r : Record) where
   unfolding listed found_for
   lists = rw finds (go q.listed)
     where
-      go : (l : Bool) → present (cond l (At (record { at = 48; size = 16 * length (entries q) })) Absent) ≡ l
+      go : (l : Bool) → is_some {T = Part} (cond l (Some (record { at = 48; size = 16 * length (entries q) })) None) ≡ l
       go true = refl
       go false = refl
 
@@ -95,7 +93,7 @@ module _ (q : Request) (a : Accepted q) (d : Bytes) (r : Record) where
   ranges_same b = rw finds (go q.listed refl)
     where
       go : (l : Bool) → q.listed ≡ l
-          → ranges_of (cond l (At (record { at = 48; size = 16 * length (entries q) })) Absent) (as_command q d r)
+          → ranges_of (cond l (Some (record { at = 48; size = 16 * length (entries q) })) None) (as_command q d r)
           ≡ cond l (entries q) (record { start = q.start; size = q.size } ∷ [])
       go true e =
           let n : 16 * length (entries q) / 16 ≡ length (entries q) = omega arith in
@@ -132,7 +130,7 @@ module _ (q : Request) (a : Accepted q) (d : Bytes) (r : Record) where
     where
       go : (x : Bool) → extended q ≡ x
           → map (λ (k : Held). k.bytes)
-          (extensions_of (cond x (At (record { at = at; size = length q.capabilities - 104 })) Absent) (as_command q d r))
+          (extensions_of (cond x (Some (record { at = at; size = length q.capabilities - 104 })) None) (as_command q d r))
           ≡ pieces others (rest_bytes q)
       go true e =
           let k : length (rest_bytes q) ≡ 104 * others = length-drop 104 q.capabilities ∙ omega (arith, one_given a, a.whole) in

@@ -1,22 +1,19 @@
 -- A written segment walked: each descriptor is met where it was put, and let through.
+use Rattle.std.specs.Prelude.{Ok, Option, None, Some}
+use Rattle.rules.specs.declared.Part.{Part}
 use Prim.Native.Nat.{ℕ, ◌+◌, ◌-◌, ◌%◌, ◌^◌, ◌≤◌, ◌<◌}
 use mathlib.Core.Path.{◌≡◌, refl, ap, ap₂, sym, subst, ◌∙◌}
 use mathlib.Core.Bool.{Bool, true, false, cond, ◌&&◌, not}
-use mathlib.Core.Option.{none}
 use mathlib.Core.List.{[], ◌∷◌, ◌++◌, append_assoc}
 use native.Mathlib.Omega.{arith}
 use lib.Dec.{eqb, ltb}
 use lib.ListN.{length, length-append}
 use borrow.Author.Tests.{le-ltb, eq-eqb, ne_eqb}
 use Rattle.rules.specs.declared.Here.TheVariants.{Entries, Extensions}
-use Rattle.rules.specs.declared.Spot.{Spot}
-use Rattle.rules.specs.declared.Spot.TheVariants.{Absent, At}
 use Rattle.rules.specs.declared.Found.{Found}
-use Rattle.rules.specs.declared.Walk.TheVariants.{Whole}
 use Rattle.rules.specs.Bytes.{Bytes, zeros, to_be}
 use Rattle.rules.specs.Tests.{first_of}
-use Rattle.rules.specs.Segment.{kind_at, pad_at, size_at, data_at, next, faults, unless, entries_here, extensions_here, here}
-use Rattle.rules.specs.Segment.{once, follow, walk_from, walk, nothing}
+use Rattle.rules.specs.Segment.{kind_at, pad_at, size_at, data_at, next, faults, unless, entries_here, extensions_here, here, once, follow, walk_from, walk, nothing}
 use Rattle.rules.specs.Writer.{descriptor}
 use Rattle.rules.proofs.BigEndian.{length_to_be}
 use Rattle.rules.proofs.Spelled.{length_descriptor}
@@ -63,7 +60,7 @@ module _ {at : ℕ} {s : Bytes} (kind : ℕ) (d : Bytes) (k : Stands at (descrip
 
   -- none of the faults of a known type
   sound : (supported : ℕ) (fits : Bool) → length d ≤ supported → supported < 65536 → length d % 8 ≡ 0 → fits ≡ true
-      → first_of (faults supported fits s at) ≡ none
+      → first_of (faults supported fits s at) ≡ None
   unfolding faults first_of
   sound supported fits small m eight fit =
       let size : size_at s at ≡ length d = size_there (omega arith) in
@@ -75,7 +72,7 @@ module _ {at : ℕ} {s : Bytes} (kind : ℕ) (d : Bytes) (k : Stands at (descrip
 
 -- what stands where a list, or an extension, was put
 pub list_there : {at : ℕ} {s : Bytes} (d : Bytes) → Stands at (descriptor 0x0001 d) s → length d ≤ 1024 → length d % 16 ≡ 0
-    → here s at ≡ Entries (record { at = at + 8; size = length d })
+    → here s at ≡ Ok (Entries (record { at = at + 8; size = length d }))
 unfolding here entries_here unless data_at
 list_there {at} {s} d k small whole =
     let size : size_at s at ≡ length d = size_there 0x0001 d k (omega arith) in
@@ -88,7 +85,7 @@ list_there {at} {s} d k small whole =
     )
 
 pub extension_there : {at : ℕ} {s : Bytes} (d : Bytes) → Stands at (descriptor 0xFFEE d) s → length d ≤ 832 → length d % 104 ≡ 0 → (length d ≡ 0 → ⊥)
-    → here s at ≡ Extensions (record { at = at + 8; size = length d })
+    → here s at ≡ Ok (Extensions (record { at = at + 8; size = length d }))
 unfolding here extensions_here unless data_at
 extension_there {at} {s} d k small whole some_data =
     let size : size_at s at ≡ length d = size_there 0xFFEE d k (omega arith) in
@@ -110,8 +107,8 @@ optional b kind d = cond b (descriptor kind d) []
 abbrev pub extent : Bool → (d : Bytes) → ℕ
 extent b d = cond b (8 + length d) 0
 
-abbrev spot : Bool → (at : ℕ) → (d : Bytes) → Spot
-spot b at d = cond b (At (record { at = at; size = length d })) Absent
+abbrev spot : Bool → (at : ℕ) → (d : Bytes) → Option Part
+spot b at d = cond b (Some (record { at = at; size = length d })) None
 
 -- a list's data, and an extension's, that the walk lets through
 pub record ListData (d : Bytes) : Type 0 where
@@ -128,7 +125,7 @@ module _ (s d : Bytes) (at : ℕ) (f : Found) where
   stays : {g : Found} → f ≡ g → walk_from (length s) s at f ≡ walk_from (length s) s (at + 0) g
   stays e = let n : at ≡ at + 0 = omega arith in ap₂ (walk_from (length s) s) n e
 
-  past_list : (b : Bool) → (b ≡ true → ListData d) → f.list ≡ Absent → Stands at (optional b 0x0001 d) s
+  past_list : (b : Bool) → (b ≡ true → ListData d) → f.list ≡ None → Stands at (optional b 0x0001 d) s
       → walk_from (length s) s at f ≡ walk_from (length s) s (at + extent b d) (record { list = spot b (at + 8) d; extension = f.extension })
   unfolding follow once
   past_list true ok e k =
@@ -137,7 +134,7 @@ module _ (s d : Bytes) (at : ℕ) (f : Found) where
       onward (length s) s at f (omega arith) ∙ rw (list_there d k o.small o.whole, e, n)
   past_list false ok e k = stays (λ i. record { list = e i; extension = f.extension })
 
-  past_extension : (b : Bool) → (b ≡ true → ExtensionData d) → f.extension ≡ Absent → Stands at (optional b 0xFFEE d) s
+  past_extension : (b : Bool) → (b ≡ true → ExtensionData d) → f.extension ≡ None → Stands at (optional b 0xFFEE d) s
       → walk_from (length s) s at f ≡ walk_from (length s) s (at + extent b d) (record { list = f.list; extension = spot b (at + 8) d })
   unfolding follow once
   past_extension true ok e k =
@@ -146,7 +143,7 @@ module _ (s d : Bytes) (at : ℕ) (f : Found) where
       onward (length s) s at f (omega arith) ∙ rw (extension_there d k o.small o.whole o.some_data, e, n)
   past_extension false ok e k = stays (λ i. record { list = f.list; extension = e i })
 
-at_end : (s : Bytes) (at : ℕ) (f : Found) → length s ≤ at → walk_from (length s) s at f ≡ Whole f
+at_end : (s : Bytes) (at : ℕ) (f : Found) → length s ≤ at → walk_from (length s) s at f ≡ Ok f
 unfolding follow
 at_end s at f h = onward (length s) s at f (omega arith) ∙ rw (end_here s at h)
 
@@ -185,12 +182,12 @@ module _ (h d e : Bytes) (l x : Bool) (head : length h ≡ 40) where
       length-append (h ++ optional l 0x0001 d) (optional x 0xFFEE e) ∙ rw (front_length, optional_length x 0xFFEE e)
 
   pub walk_whole : (l ≡ true → ListData d) → (x ≡ true → ExtensionData e)
-      → walk (h ++ optional l 0x0001 d ++ optional x 0xFFEE e) ≡ Whole (record { list = spot l 48 d; extension = spot x (48 + extent l d) e })
+      → walk (h ++ optional l 0x0001 d ++ optional x 0xFFEE e) ≡ Ok (record { list = spot l 48 d; extension = spot x (48 + extent l d) e })
   unfolding walk
   walk_whole list extension =
       let s : Bytes = h ++ optional l 0x0001 d ++ optional x 0xFFEE e in
       let at : 40 + extent l d + 8 ≡ 48 + extent l d = omega arith in
       past_list s d 40 nothing l list refl list_stands
-      ∙ past_extension s e (40 + extent l d) (record { list = spot l 48 d; extension = Absent }) x extension refl extension_stands
+      ∙ past_extension s e (40 + extent l d) (record { list = spot l 48 d; extension = None }) x extension refl extension_stands
       ∙ at_end s _ _ (omega (arith, whole_length))
-      ∙ ap (λ (m : ℕ). Whole (record { list = spot l 48 d; extension = spot x m e })) at
+      ∙ ap (λ (m : ℕ). Ok (record { list = spot l 48 d; extension = spot x m e })) at

@@ -1,8 +1,8 @@
 -- Law 4, WRITE and CLEAR: what a command that no row refuses leaves in the slice and in the record.
+use Rattle.std.specs.Prelude.{None, Some}
 use Prim.Native.Nat.{ℕ, suc, ◌+◌, ◌-◌, ◌≤◌, ◌<◌}
 use mathlib.Core.Path.{◌≡◌, refl, sym, ◌∙◌}
 use mathlib.Core.Logic.{◌⊎◌, inl, inr}
-use mathlib.Core.Option.{none, some}
 use mathlib.Core.Bool.{true, false}
 use native.Mathlib.Nat.{add-sub_of_le}
 use native.Mathlib.Omega.{arith}
@@ -21,8 +21,7 @@ use Rattle.rules.proofs.Given.{alone, unlisted, sums, apart, supplied, raised_he
 use Rattle.rules.proofs.Course.{room_of}
 use Rattle.rules.proofs.Lists.{byte_zeros, laid_length, laid_below, laid_within, laid_above}
 use Rattle.rules.proofs.Positions.{reach_old, reach_above, reach_least, covered_placed}
-use Rattle.rules.proofs.Scatter.{Ready, scattered_length, scattered_other, scattered_holds, nonempty, nonempty_scattered}
-use Rattle.rules.proofs.Scatter.{nonempty_reach, nonempty_positions}
+use Rattle.rules.proofs.Scatter.{Ready, scattered_length, scattered_other, scattered_holds, nonempty, nonempty_scattered, nonempty_reach, nonempty_positions}
 
 -- The law. d is the command data, or for CLEAR zeros; s and i are the slice and Data-In as they were lent.
 pub record Wrote (c : Command) (d s i : Bytes) (a : Answered) : Type 0 where
@@ -152,7 +151,7 @@ sole_apart c n = rw (alone c n)
 -- ---- law 4
 
 pub write : (c : Command) (s i : Bytes)
-    → refusal c (room_of s i) ≡ none → verb c ≡ some Write → Wrote c (payload c) s i (answered c s i)
+    → refusal c (room_of s i) ≡ None → verb c ≡ Some Write → Wrote c (payload c) s i (answered c s i)
 unfolding answered settled carried
 write c s i accepted v =
     let p = passed c (room_of s i) accepted in
@@ -160,8 +159,8 @@ write c s i accepted v =
     rw (accepted, v) (wrote_law c (payload c) s i exact (record { new = raised_held p Write v refl; enough = supplied p v }))
 
 pub clear : (c : Command) (s i : Bytes)
-    → refusal c (room_of s i) ≡ none
-    → verb c ≡ some Clear
+    → refusal c (room_of s i) ≡ None
+    → verb c ≡ Some Clear
     → Wrote c (zeros (length_of c.cdb)) s i (answered c s i)
 unfolding answered settled carried
 clear c s i accepted v =

@@ -1,11 +1,10 @@
 -- Admission (document 01, "Who is let in"): at least one capability matches, even with an empty list, and each range lies inside
 -- one matching capability. Different ranges may use different ones. Empty ranges count too.
-use Rattle.std.proofs.Math.Option.{Option, none, some}
-use Rattle.std.specs.Prelude.{Bool, cond, ◌&&◌, map}
+use Rattle.std.specs.Prelude.{Option, None, Some, Bool, cond, ◌&&◌, map, is_some}
 use Rattle.rules.specs.declared.Range.{Range}
 use Rattle.rules.specs.declared.Verb.{Verb}
 use Rattle.rules.specs.Bytes.{any, all}
-use Rattle.rules.specs.Tests.{test, first_of, is_some}
+use Rattle.rules.specs.Tests.{test, first_of}
 use Rattle.rules.specs.Command.{Command, partition_of, object_of, verb}
 use Rattle.rules.specs.Capability.{matches, inside}
 use Rattle.rules.specs.Reading.{Held, ranges, capabilities}
@@ -27,10 +26,10 @@ unfoldable pub admitted : Verb → Command → Bool
 admitted v c = any (fits v c) (capabilities c) && all (λ (g : Range). is_some (admitting v c g)) (ranges c)
 
 unfoldable pub admitting_for : Option Verb → Command → Range → Option Held
-admitting_for none c g = none
-admitting_for (some v) c g = admitting v c g
+admitting_for None c g = None
+admitting_for (Some v) c g = admitting v c g
 
 -- The admission question: for any range, the first capability that admits it, as its 104 bytes where they stand.
 -- Nothing is handed back where none admits it, or where one of rows 2 to 8 refuses the command.
 unfoldable pub question : Command → Range → Option Held
-question c g = cond (readable c) (admitting_for (verb c) c g) none
+question c g = cond (readable c) (admitting_for (verb c) c g) None

@@ -1,6 +1,5 @@
 -- The whole answer to a call: how it ended, the count and the next record, and what the slice and Data-In hold afterwards.
-use Rattle.std.specs.Prelude.{ℕ, ◌-◌, cond, ◌++◌, length, take, drop, ltb}
-use Rattle.std.proofs.Math.Option.{Option, none, some}
+use Rattle.std.specs.Prelude.{Option, None, Some, ℕ, ◌-◌, cond, ◌++◌, length, take, drop, ltb}
 use Rattle.rules.specs.declared.Record.{Record}
 use Rattle.rules.specs.declared.Verb.{Verb}
 use Rattle.rules.specs.declared.Verb.TheVariants.{Read, Write, Clear, Punch}
@@ -70,9 +69,9 @@ carried Punch c s i = cut (punched (sole_range c.cdb) (object c s)) c s i
 
 -- Row 3 refuses a command without a verb, so the second line is never reached.
 unfoldable pub settled : Option Refusal → Option Verb → Command → (slice input : Bytes) → Answered
-settled (some w) v c s i = refused w c s i
-settled none none c s i = refused ActionUnknown c s i
-settled none (some v) c s i = carried v c s i
+settled (Some w) v c s i = refused w c s i
+settled None None c s i = refused ActionUnknown c s i
+settled None (Some v) c s i = carried v c s i
 
 unfoldable pub answered : Command → (slice input : Bytes) → Answered
 answered c s i = settled (refusal c (record { slice = length s; input = length i })) (verb c) c s i

@@ -1,8 +1,10 @@
 -- The CDB's fields and its verb (document 01, "CDB, 236 bytes"), and a command with all that it is read beside.
-use Rattle.std.specs.Prelude.{ℕ, Bool, true, false, [], ◌∷◌, take, drop, eqb}
-use Rattle.std.proofs.Math.Option.{Option, none, some}
+use Rattle.std.specs.Prelude.{ℕ, ◌≡◌, Bool, true, false, [], ◌∷◌, take, drop, eqb, Option, None, Some, Result}
+use Rattle.std.specs.Option.{ok_or}
 use Rattle.rules.specs.declared.Record.{Record}
 use Rattle.rules.specs.declared.Range.{Range}
+use Rattle.rules.specs.declared.Refusal.{Refusal}
+use Rattle.rules.specs.declared.Refusal.TheVariants.{ActionUnknown}
 use Rattle.rules.specs.declared.Verb.{Verb}
 use Rattle.rules.specs.declared.Verb.TheVariants.{Read, Write, Clear, Punch}
 use Rattle.rules.specs.Bytes.{Bytes, field}
@@ -58,6 +60,13 @@ verb_of a =
     ∷ test Punch (eqb a PUNCH)
     ∷ [])
 
+-- a service action, read as a verb: row 3 refuses one that has none
+unfoldable pub read_verb : ℕ → Result Verb Refusal
+read_verb a = ok_or (verb_of a) ActionUnknown
+
+abbrev pub IsReadVerb : ℕ → Result Verb Refusal → Type 0
+IsReadVerb a r = r ≡ read_verb a
+
 unfoldable pub verb : Command → Option Verb
 verb c = verb_of (action c.cdb)
 
@@ -87,8 +96,8 @@ is_punch Punch = true
 
 -- a test of the verb; an action without a verb passes none
 abbrev pub asks : Option Verb → (Verb → Bool) → Bool
-asks none f = false
-asks (some v) f = f v
+asks None f = false
+asks (Some v) f = f v
 
 -- the segment is Data-Out's first bytes, as many as the continuation length says; command data follows it
 unfoldable pub segment : Command → Bytes

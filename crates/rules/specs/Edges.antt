@@ -1,7 +1,6 @@
 -- Examples at the edges: points that the documents leave open or where they differ (docs/DECISIONS.md), and what is easy to get wrong.
-use Rattle.std.specs.Prelude.{ℕ, ◌+◌, ◌≡◌, refl, true, List, [], ◌∷◌, ◌++◌, map, length}
+use Rattle.std.specs.Prelude.{Option, None, Some, ℕ, ◌+◌, ◌≡◌, refl, true, List, [], ◌∷◌, ◌++◌, map, length}
 use Prim.Native.String.{String}
-use Rattle.std.proofs.Math.Option.{Option, none, some}
 use Rattle.rules.specs.Bytes.{Bytes, zeros, to_be, laid}
 use Rattle.rules.specs.Reading.{Lent, in_cdb, in_out, Held}
 use Rattle.rules.specs.Admission.{question}
@@ -70,8 +69,8 @@ held = refl
 
 -- The admission question: which capability admits a range of a written command, by the place where it stands.
 abbrev standing : Option Held → Option (Lent × ℕ)
-standing none = none
-standing (some h) = some (h.lent, h.at)
+standing None = None
+standing (Some h) = Some (h.lent, h.at)
 
 abbrev ask : Request → (start size : ℕ) → Option (Lent × ℕ)
 ask q start size =
@@ -93,6 +92,6 @@ asked =
     ∷ ask (request k CLEAR 0 0 true (0 ∷ []) (1 ∷ [])) 3 4
     ∷ []
 
-pub answers : asked ≡ some (in_cdb, 80) ∷ some (in_out, 48) ∷ some (in_out, 152) ∷ none ∷ some (in_cdb, 80) ∷ some (in_cdb, 80) ∷ none ∷ []
+pub answers : asked ≡ Some (in_cdb, 80) ∷ Some (in_out, 48) ∷ Some (in_out, 152) ∷ None ∷ Some (in_cdb, 80) ∷ Some (in_cdb, 80) ∷ None ∷ []
 unfolding text slice capability request called
 answers = refl

@@ -1,7 +1,5 @@
 -- A full segment: 2,048 bytes, a list of 64 entries and an extension of 8 capabilities. Its walk computes.
-use Rattle.std.specs.Prelude.{◌≡◌, refl, true, ◌++◌, length, replicate}
-use Rattle.rules.specs.declared.Walk.TheVariants.{Whole}
-use Rattle.rules.specs.declared.Spot.TheVariants.{At}
+use Rattle.std.specs.Prelude.{Ok, Some, ◌≡◌, refl, true, ◌++◌, length, replicate}
 use Rattle.rules.specs.Bytes.{Bytes, zeros}
 use Rattle.rules.specs.Command.{READ}
 use Rattle.rules.specs.Segment.{walk}
@@ -29,6 +27,6 @@ pub size : length full ≡ 2048
 unfolding full request sent
 size = refl
 
-pub walked : walk full ≡ Whole (record { list = At (record { at = 48; size = 1024 }); extension = At (record { at = 1080; size = 832 }) })
+pub walked : walk full ≡ Ok (record { list = Some (record { at = 48; size = 1024 }); extension = Some (record { at = 1080; size = 832 }) })
 unfolding full request sent
 walked = refl

@@ -1,15 +1,14 @@
 -- Rows 2 to 8 of document 01's table of numbers: whether a command can be read, of CDB, Data-Out and record alone.
 -- The engine, the admission question and demand 3 share them. They are three questions: of the CDB alone (2 and 3),
 -- whose object it names (4), and of its segment (5 to 8).
-use Rattle.std.specs.Prelude.{Bool, ◌&&◌, ◌||◌, not, List, [], ◌∷◌, ◌++◌, length, eqb, ltb}
+use Rattle.std.specs.Prelude.{is_err, is_some, Bool, ◌&&◌, ◌||◌, not, List, [], ◌∷◌, ◌++◌, length, eqb, ltb}
 use Rattle.rules.specs.declared.Verb.{Verb}
 use Rattle.rules.specs.declared.Refusal.{Refusal}
-use Rattle.rules.specs.declared.Refusal.TheVariants.{CdbMalformed, ActionUnknown, OtherObject}
-use Rattle.rules.specs.declared.Refusal.TheVariants.{ContinuationLength, SegmentHeader, Descriptor, ListForbidden}
+use Rattle.rules.specs.declared.Refusal.TheVariants.{CdbMalformed, ActionUnknown, OtherObject, ContinuationLength, SegmentHeader, Descriptor, ListForbidden}
 use Rattle.rules.specs.Bytes.{Bytes, byte, field}
-use Rattle.rules.specs.Tests.{Test, test, first_of, is_some}
+use Rattle.rules.specs.Tests.{Test, test, first_of}
 use Rattle.rules.specs.Command.{Command, action, partition_of, object_of, continuation, verb_of, verb, asks, is_clear, is_punch, segment}
-use Rattle.rules.specs.Reading.{walked, is_broken, listed}
+use Rattle.rules.specs.Reading.{walked, listed}
 
 -- 2: CDB not 236 bytes, byte 0 or byte 7 wrong
 unfoldable pub cdb_malformed : (cdb : Bytes) → Bool
@@ -42,7 +41,7 @@ segment_header_wrong c = continued c && (not (eqb (byte 0 (segment c)) 0x01) || 
 
 -- 7: the walk over the descriptors is broken off
 unfoldable pub descriptor_faulty : Command → Bool
-descriptor_faulty c = is_broken (walked c)
+descriptor_faulty c = is_err (walked c)
 
 -- 8: a list on CLEAR or PUNCH
 unfoldable pub list_forbidden : Command → Bool

@@ -1,10 +1,8 @@
 -- Document 01's numbers, and for each its sense key, sense code and status.
 use Rattle.std.specs.Prelude.{ℕ, cond, List, [], ◌∷◌, map, eqb}
-use Rattle.std.proofs.Math.Option.{get_or}
+use Rattle.std.specs.Option.{unwrap_or}
 use Rattle.rules.specs.declared.Refusal.{Refusal}
-use Rattle.rules.specs.declared.Refusal.TheVariants.{ObjectUnfit, CdbMalformed, ActionUnknown, OtherObject, ContinuationLength}
-use Rattle.rules.specs.declared.Refusal.TheVariants.{SegmentHeader, Descriptor, ListForbidden, ListWithStart, ListFault, NotAdmitted}
-use Rattle.rules.specs.declared.Refusal.TheVariants.{StartsBeyond, BufferShort, NoRoom}
+use Rattle.rules.specs.declared.Refusal.TheVariants.{ObjectUnfit, CdbMalformed, ActionUnknown, OtherObject, ContinuationLength, SegmentHeader, Descriptor, ListForbidden, ListWithStart, ListFault, NotAdmitted, StartsBeyond, BufferShort, NoRoom}
 use Rattle.rules.specs.declared.Outcome.{Outcome}
 use Rattle.rules.specs.declared.Outcome.TheVariants.{Done, Ended, Refused}
 use Rattle.rules.specs.Tests.{test, first_of}
@@ -63,7 +61,7 @@ table =
 
 -- a number that the table doesn't have has no sense: key 0, code 0000h
 unfoldable pub sense : (number : ℕ) → Sense
-sense n = get_or (first_of (map (λ (l : Line). test l.sense (eqb n l.of)) table)) (record { key = 0; code = 0 })
+sense n = unwrap_or (first_of (map (λ (l : Line). test l.sense (eqb n l.of)) table)) (record { key = 0; code = 0 })
 
 -- GOOD, 00h, for 0; all others are CHECK CONDITION, 02h
 unfoldable pub status : (number : ℕ) → ℕ

@@ -1,8 +1,6 @@
 -- A written command read back (document 01, "The host's writer": "Read back, every field, capability and list entry that an accepted command
 -- used is as given"), and the tie between the halves: what the engine answers to it is the answer to the request itself.
-use Rattle.std.specs.Prelude.{ℕ, zero, suc, ◌+◌, ◌*◌, ◌-◌, ◌/◌, ◌^◌, ◌<◌, ◌≡◌, Bool, false, cond, ◌&&◌, ◌||◌, not, eqb, ltb}
-use Rattle.std.specs.Prelude.{List, [], ◌∷◌, ◌++◌, map, length, take, drop, get_or}
-use Rattle.std.proofs.Math.Option.{Option, none, some}
+use Rattle.std.specs.Prelude.{Ok, Option, None, Some, ℕ, zero, suc, ◌+◌, ◌*◌, ◌-◌, ◌/◌, ◌^◌, ◌<◌, ◌≡◌, Bool, false, cond, ◌&&◌, ◌||◌, not, eqb, ltb, List, [], ◌∷◌, ◌++◌, map, length, take, drop, get_or}
 use Rattle.rules.specs.declared.Record.{Record}
 use Rattle.rules.specs.declared.Range.{Range}
 use Rattle.rules.specs.declared.Verb.{Verb}
@@ -10,13 +8,10 @@ use Rattle.rules.specs.declared.Verb.TheVariants.{Read, Write, Clear, Punch}
 use Rattle.rules.specs.declared.Refusal.{Refusal}
 use Rattle.rules.specs.declared.Refusal.TheVariants.{ObjectUnfit, OtherObject, NotAdmitted, StartsBeyond, BufferShort, NoRoom}
 use Rattle.rules.specs.declared.Outcome.TheVariants.{Done, Ended, Refused}
-use Rattle.rules.specs.declared.Spot.TheVariants.{Absent, At}
 use Rattle.rules.specs.declared.Found.{Found}
-use Rattle.rules.specs.declared.Walk.TheVariants.{Whole}
 use Rattle.rules.specs.Bytes.{Bytes, zeros, any, all}
 use Rattle.rules.specs.Tests.{Test, test, first_of}
-use Rattle.rules.specs.Command.{Command, partition_of, object_of, length_of, start_of, continuation, verb_of, verb, segment, payload}
-use Rattle.rules.specs.Command.{is_read, is_write, is_clear, is_punch}
+use Rattle.rules.specs.Command.{Command, partition_of, object_of, length_of, start_of, continuation, verb_of, verb, segment, payload, is_read, is_write, is_clear, is_punch}
 use Rattle.rules.specs.Ranges.{reach}
 use Rattle.rules.specs.Reading.{walked, ranges, Held, capabilities}
 use Rattle.rules.specs.Capability.{matches, inside}
@@ -53,11 +48,11 @@ capabilities_for q = pieces (length q.capabilities / 104) q.capabilities
 unfoldable pub found_for : Request → Found
 found_for q =
     record {
-      list = cond q.listed (At (record { at = 48; size = 16 * length (entries q) })) Absent;
+      list = cond q.listed (Some (record { at = 48; size = 16 * length (entries q) })) None;
       extension =
           cond (extended q)
-          (At (record { at = 48 + cond q.listed (8 + 16 * length (entries q)) 0; size = length q.capabilities - 104 }))
-          Absent;
+          (Some (record { at = 48 + cond q.listed (8 + 16 * length (entries q)) 0; size = length q.capabilities - 104 }))
+          None;
     }
 
 -- ---- what is sent and read back
@@ -78,7 +73,7 @@ pub record Same (q : Request) (d : Bytes) (c : Command) : Type 0 where
   pub segment_is : segment c ≡ segment_for q
   pub payload_is : payload c ≡ d
   -- the walk meets just the list and the extension that were given
-  pub walk_is : walked c ≡ Whole (found_for q)
+  pub walk_is : walked c ≡ Ok (found_for q)
   -- every entry, and every capability in its order
   pub ranges_are : ranges c ≡ ranges_for q
   pub capabilities_are : map (λ (k : Held). k.bytes) (capabilities c) ≡ capabilities_for q
@@ -159,8 +154,8 @@ carried_for Clear q d r s i = wrote_for (zeros (length_for q)) q r s i
 carried_for Punch q d r s i = cut_for (punched (record { start = q.start; size = q.size }) (take r.length s)) r s i
 
 unfoldable pub settled_for : Option Refusal → Verb → Request → (d : Bytes) → Record → (slice input : Bytes) → Answered
-settled_for (some w) v q d r s i = record { answer = answer (Refused w) 0 r; slice = s; input = i }
-settled_for none v q d r s i = carried_for v q d r s i
+settled_for (Some w) v q d r s i = record { answer = answer (Refused w) 0 r; slice = s; input = i }
+settled_for None v q d r s i = carried_for v q d r s i
 
 unfoldable pub answered_for : Verb → Request → (d : Bytes) → Record → (slice input : Bytes) → Answered
 answered_for v q d r s i = settled_for (first_of (rows_for v q d r (record { slice = length s; input = length i }))) v q d r s i
@@ -171,5 +166,5 @@ Answers =
     (q : Request) (cdb segment d : Bytes) (r : Record) (v : Verb) (s i : Bytes)
     → Bounded q
     → (written q cdb segment).number ≡ 0
-    → verb_of q.action ≡ some v
+    → verb_of q.action ≡ Some v
     → answered (sent (written q cdb segment) d r) s i ≡ answered_for v q d r s i

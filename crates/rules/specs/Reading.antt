@@ -1,42 +1,31 @@
 -- What a command's CDB and segment come to: its list or none, its ranges and its capabilities.
-use Rattle.std.specs.Prelude.{ℕ, ◌/◌, Bool, true, false, cond, List, [], ◌∷◌, map, eqb}
+use Rattle.std.specs.Prelude.{is_err, is_some, Ok, Err, Option, None, Some, ℕ, ◌/◌, Bool, true, false, cond, List, [], ◌∷◌, map, eqb}
+use Rattle.rules.specs.Segment.{fault, Walk, walk, nothing, entries_from, places_from}
+use Rattle.rules.specs.declared.Part.{Part}
 use Rattle.rules.specs.declared.Range.{Range}
-use Rattle.rules.specs.declared.Spot.{Spot}
-use Rattle.rules.specs.declared.Spot.TheVariants.{Absent, At}
 use Rattle.rules.specs.declared.Found.{Found}
-use Rattle.rules.specs.declared.Walk.{Walk}
-use Rattle.rules.specs.declared.Walk.TheVariants.{Whole, Broken}
 use Rattle.rules.specs.Bytes.{Bytes, part}
 use Rattle.rules.specs.Command.{Command, continuation, segment, sole_range}
-use Rattle.rules.specs.Segment.{walk, nothing, entries_from, places_from}
 
 -- with a continuation length of zero there is no segment, and nothing is found
 unfoldable pub walked : Command → Walk
-walked c = cond (eqb (continuation c.cdb) 0) (Whole nothing) (walk (segment c))
-
-abbrev pub is_broken : Walk → Bool
-is_broken (Whole f) = false
-is_broken (Broken k at) = true
+walked c = cond (eqb (continuation c.cdb) 0) (Ok nothing) (walk (segment c))
 
 abbrev pub found_in : Walk → Found
-found_in (Whole f) = f
-found_in (Broken k at) = nothing
+found_in (Ok f) = f
+found_in (Err e) = nothing
 
 unfoldable pub found : Command → Found
 found c = found_in (walked c)
 
-abbrev pub present : Spot → Bool
-present Absent = false
-present (At d) = true
-
 -- the command has a list
 unfoldable pub listed : Command → Bool
-listed c = present (found c).list
+listed c = is_some (found c).list
 
 -- The ranges of a command are its list entries, or without a list the one range of LENGTH and STARTING BYTE ADDRESS.
-abbrev pub ranges_of : Spot → Command → List Range
-ranges_of Absent c = sole_range c.cdb ∷ []
-ranges_of (At d) c = entries_from (d.size / 16) (segment c) d.at
+abbrev pub ranges_of : Option Part → Command → List Range
+ranges_of None c = sole_range c.cdb ∷ []
+ranges_of (Some d) c = entries_from (d.size / 16) (segment c) d.at
 
 unfoldable pub ranges : Command → List Range
 ranges c = ranges_of (found c).list c
@@ -56,9 +45,9 @@ solo c = record { lent = in_cdb; at = 80; bytes = part 80 104 c.cdb }
 unfoldable pub extension : Command → (at : ℕ) → Held
 extension c at = record { lent = in_out; at = at; bytes = part at 104 (segment c) }
 
-abbrev pub extensions_of : Spot → Command → List Held
-extensions_of Absent c = []
-extensions_of (At d) c = map (extension c) (places_from (d.size / 104) d.at)
+abbrev pub extensions_of : Option Part → Command → List Held
+extensions_of None c = []
+extensions_of (Some d) c = map (extension c) (places_from (d.size / 104) d.at)
 
 -- the CDB's comes first
 unfoldable pub capabilities : Command → List Held

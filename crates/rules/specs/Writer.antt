@@ -1,10 +1,9 @@
 -- The host's command writer (document 01, "The host's writer"): what it writes, and what it refuses.
-use Rattle.std.specs.Prelude.{ℕ, ◌%◌, ◌^◌, Bool, cond, ◌&&◌, ◌||◌, not, List, [], ◌∷◌, ◌++◌, length, take, drop, eqb, leb, ltb}
-use Rattle.std.proofs.Math.Option.{Option, none, some}
+use Rattle.std.specs.Prelude.{is_some, Option, None, Some, ℕ, ◌%◌, ◌^◌, Bool, cond, ◌&&◌, ◌||◌, not, List, [], ◌∷◌, ◌++◌, length, take, drop, eqb, leb, ltb}
 use Rattle.rules.specs.declared.Range.{Range}
 use Rattle.rules.specs.declared.Verb.{Verb}
 use Rattle.rules.specs.Bytes.{Bytes, zeros, to_be}
-use Rattle.rules.specs.Tests.{Test, test, first_of, is_some}
+use Rattle.rules.specs.Tests.{Test, test, first_of}
 use Rattle.rules.specs.Command.{verb_of, asks, is_write, is_clear, is_punch}
 use Rattle.rules.specs.Ranges.{total, overlapping}
 
@@ -103,8 +102,8 @@ pub record Written : Type 0 where
 
 -- a refusal leaves both buffers as they were; else the bytes past those written stay
 unfoldable pub writes : Option ℕ → Request → (cdb segment : Bytes) → Written
-writes (some n) q cdb segment = record { number = n; size = 0; cdb = cdb; segment = segment }
-writes none q cdb segment =
+writes (Some n) q cdb segment = record { number = n; size = 0; cdb = cdb; segment = segment }
+writes None q cdb segment =
     record {
       number = 0;
       size = length (segment_for q);

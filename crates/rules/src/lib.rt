@@ -43,7 +43,7 @@ pub struct Range {
 }
 
 // The four commands, and their service actions.
-#[derive(Clone, Copy)]
+#[derive(Clone, Copy, PartialEq, Eq)]
 pub enum Verb {
     Read,
     Write,
@@ -58,6 +58,24 @@ pub const WRITE: u64 = 0x8886;
 pub const CLEAR: u64 = 0x8889;
 
 pub const PUNCH: u64 = 0x8884;
+
+impl TryFrom<u64> for Verb {
+    ghost use Rattle.rules.specs.Command.{IsReadVerb};
+
+    type Error = Refusal;
+
+    ghost try_from_gives = { IsReadVerb };
+
+    fn try_from(action: u64) -> Result<Verb, Refusal> {
+        match action {
+            READ => Ok(Verb::Read),
+            WRITE => Ok(Verb::Write),
+            CLEAR => Ok(Verb::Clear),
+            PUNCH => Ok(Verb::Punch),
+            _ => Err(Refusal::ActionUnknown),
+        }
+    }
+}
 
 // Rows 1 to 14 of the table of numbers, in its order.
 #[derive(Clone, Copy)]
@@ -113,31 +131,24 @@ pub struct Part {
     pub size: usize,
 }
 
-// What stands at a position of the segment.
+// What stands at a position of the segment, where nothing is at fault.
 #[derive(Clone, Copy)]
 pub enum Here {
     End,
     Entries(Part),
     Extensions(Part),
-    Fault(Cause),
-}
-
-#[derive(Clone, Copy)]
-pub enum Spot {
-    Absent,
-    At(Part),
 }
 
 // What a walk has met: the list's data and the extension's.
 #[derive(Clone, Copy)]
 pub struct Found {
-    pub list: Spot,
-    pub extension: Spot,
+    pub list: Option<Part>,
+    pub extension: Option<Part>,
 }
 
-// What a walk comes to: all that the segment has, or the first fault and where its header stands.
+// The first fault of a segment, and where the header of what is at fault stands.
 #[derive(Clone, Copy)]
-pub enum Walk {
-    Whole(Found),
-    Broken(Cause, usize),
+pub struct Fault {
+    pub cause: Cause,
+    pub at: usize,
 }

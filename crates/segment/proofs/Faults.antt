@@ -1,8 +1,8 @@
 -- What a descriptor of a known type is refused for, fault by fault.
+use Rattle.std.specs.Prelude.{Result, Ok, Err, Option, None, Some}
 use Prim.Native.Nat.{ℕ, ◌+◌, ◌-◌, ◌%◌, ◌≤◌, ◌<◌}
 use mathlib.Core.Path.{◌≡◌, refl, sym, ap, ◌∙◌}
 use mathlib.Core.Bool.{Bool, true, false, ◌&&◌, not, and-true, and-false}
-use mathlib.Core.Option.{Option, none, some}
 use lib.Dec.{eqb}
 use lib.ListN.{length}
 use native.Mathlib.Omega.{arith}
@@ -13,7 +13,7 @@ use Rattle.rules.specs.Bytes.{Bytes, field}
 use Rattle.rules.specs.Tests.{first_of}
 use Rattle.rules.specs.Segment.{size_at, pad_at, next, faults, unless, data_at, entries_here, extensions_here, entry_at}
 use Rattle.rules.specs.declared.Here.{Here}
-use Rattle.rules.specs.declared.Here.TheVariants.{Entries, Extensions, Fault}
+use Rattle.rules.specs.declared.Here.TheVariants.{Entries, Extensions}
 use Rattle.segment.specs.declared.Verdict.{Verdict}
 use Rattle.segment.specs.declared.Verdict.TheVariants.{Sound, Faulty}
 use Rattle.segment.specs.Verdict.{judged}
@@ -42,41 +42,41 @@ module _ (s : Bytes) (at size pad supported : ℕ) (es : size ≡ size_at s at) 
   sound fits f h n l p = let q : at + 8 + size + pad ≤ length s = omega arith in rw (f, ← es, ← ep, le-ltb _ _ h, eq-eqb _ _ n, le-ltb _ _ q)
 
 -- what a verdict makes of a descriptor
-here_of : Verdict → Here → Here
+here_of : Verdict → Result Here Cause → Result Here Cause
 here_of Sound h = h
-here_of (Faulty c) h = Fault c
+here_of (Faulty c) h = Err c
 
-unless_judged : (o : Option Cause) (h : Here) → unless o h ≡ here_of (judged o) h
+unless_judged : (o : Option Cause) (h : Result Here Cause) → unless o h ≡ here_of (judged o) h
 unfolding unless here_of
-unless_judged none h = refl
-unless_judged (some c) h = refl
+unless_judged None h = refl
+unless_judged (Some c) h = refl
 
-module _ (o : Option Cause) (h : Here) (v : Verdict) (e : v ≡ judged o) where
+module _ (o : Option Cause) (h : Result Here Cause) (v : Verdict) (e : v ≡ judged o) where
   pub sound_here : v ≡ Sound → h ≡ unless o h
   unfolding here_of
   sound_here q = sym (unless_judged o h ∙ ap (λ (w : Verdict). here_of w h) (sym e ∙ q))
 
-  pub faulty_here : (c : Cause) → v ≡ Faulty c → Fault c ≡ unless o h
+  pub faulty_here : (c : Cause) → v ≡ Faulty c → Err c ≡ unless o h
   unfolding here_of
   faulty_here c q = sym (unless_judged o h ∙ ap (λ (w : Verdict). here_of w h) (sym e ∙ q))
 
 -- the list, and the extension, by the verdict on it
 module _ (s : Bytes) (at size : ℕ) (v : Verdict) (e : size ≡ size_at s at) where
   module _ (j : v ≡ judged (first_of (faults 1024 (eqb (size % 16) 0) s at))) where
-    pub list_sound : v ≡ Sound → Entries (record { at = at + 8; size = size }) ≡ entries_here s at
+    pub list_sound : v ≡ Sound → Ok (Entries (record { at = at + 8; size = size })) ≡ entries_here s at
     unfolding entries_here data_at
     list_sound q = rw e (sound_here _ _ v (rw e at j) q)
 
-    pub list_faulty : (k : Cause) → v ≡ Faulty k → Fault k ≡ entries_here s at
+    pub list_faulty : (k : Cause) → v ≡ Faulty k → Err k ≡ entries_here s at
     unfolding entries_here
     list_faulty k q = faulty_here _ _ v (rw e at j) k q
 
   module _ (fits : Bool) (w : fits ≡ (eqb (size % 104) 0 && not (eqb size 0))) (j : v ≡ judged (first_of (faults 832 fits s at))) where
-    pub extension_sound : v ≡ Sound → Extensions (record { at = at + 8; size = size }) ≡ extensions_here s at
+    pub extension_sound : v ≡ Sound → Ok (Extensions (record { at = at + 8; size = size })) ≡ extensions_here s at
     unfolding extensions_here data_at
     extension_sound q = rw e (sound_here _ _ v (rw (w, e) at j) q)
 
-    pub extension_faulty : (k : Cause) → v ≡ Faulty k → Fault k ≡ extensions_here s at
+    pub extension_faulty : (k : Cause) → v ≡ Faulty k → Err k ≡ extensions_here s at
     unfolding extensions_here
     extension_faulty k q = faulty_here _ _ v (rw (w, e) at j) k q
 

@@ -1,8 +1,8 @@
 -- The five tests of the list, as the writer makes them.
+use Rattle.std.specs.Prelude.{is_some, Option, None, Some}
 use Prim.Native.Nat.{ℕ, ◌^◌, ◌<◌, ◌≤◌}
 use mathlib.Core.Path.{◌≡◌, refl, sym, ap, ◌∙◌}
 use mathlib.Core.Bool.{Bool, true, false, cond, ◌&&◌, or-true, and-false, true≢false}
-use mathlib.Core.Option.{Option, none, some}
 use mathlib.Core.List.{List}
 use native.Mathlib.Nat.{le_of_eq}
 use native.Mathlib.Omega.{arith}
@@ -10,7 +10,7 @@ use lib.ListN.{length, take}
 use lib.Seq.{take_all, take-length}
 use lib.Dec.{ltb}
 use borrow.Author.Tests.{ne_eqb, eq-eqb, lt-ltb, le-ltb, le-leb, lt-leb, ltb-true, ltb-false}
-use Rattle.rules.specs.Tests.{Test, first_of, is_some}
+use Rattle.rules.specs.Tests.{Test, first_of}
 use Rattle.rules.specs.Command.{WRITE, CLEAR, PUNCH, verb_of, asks, is_write}
 use Rattle.rules.specs.Ranges.{total, overlapping}
 use Rattle.rules.specs.Writer.{Request, paired, entries, length_for, refusals}
@@ -27,8 +27,8 @@ pub some_holds : (ts : List (Test ℕ)) (k : ℕ) → holds_at ts k ≡ true →
 some_holds ts k h = go (first_of ts) refl
   where
     go : (o : Option ℕ) → first_of ts ≡ o → is_some o ≡ true
-    go none e = absurd (true≢false (sym h ∙ nothing_holds ts e k))
-    go (some n) e = refl
+    go None e = absurd (true≢false (sym h ∙ nothing_holds ts e k))
+    go (Some n) e = refl
 
 -- what a sum says of the total
 sum_over : (t : ℕ) → Over ≡ summed t → 2 ^ 64 ≤ t

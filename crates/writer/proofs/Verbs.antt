@@ -1,14 +1,13 @@
 -- The four service actions, and what the writer asks of an action's verb.
-use Prim.Native.Nat.{ℕ, ◌%◌}
+use Rattle.std.specs.Prelude.{is_some, None, Some}
+use Prim.Native.Nat.{ℕ, ◌%◌, ◌≤◌, ◌<◌}
 use mathlib.Core.Path.{◌≡◌, refl}
 use mathlib.Core.Bool.{Bool, true, false, cond, ◌||◌, not, or-true, not-not}
-use mathlib.Core.Option.{none, some}
 use lib.Dec.{eqb, ltb}
 use borrow.Author.Tests.{ne_eqb, lt-ltb, le-ltb}
-use Prim.Native.Nat.{◌≤◌, ◌<◌}
 use Rattle.rules.specs.declared.Verb.{Verb}
 use Rattle.rules.specs.declared.Verb.TheVariants.{Read, Write, Clear, Punch}
-use Rattle.rules.specs.Tests.{first_of, is_some}
+use Rattle.rules.specs.Tests.{first_of}
 use Rattle.rules.specs.Command.{READ, WRITE, CLEAR, PUNCH, verb_of, asks, is_write, is_clear, is_punch}
 
 module _ (a : ℕ) where
@@ -28,7 +27,7 @@ module _ (a : ℕ) where
   unfolding verb_of first_of
   is_punch_lem r w c = rw (ne_eqb a READ r, ne_eqb a WRITE w, ne_eqb a CLEAR c) (go (eqb a PUNCH))
     where
-      go : (b : Bool) → b ≡ is_some (cond b (some Punch) none)
+      go : (b : Bool) → b ≡ is_some (cond b (Some Punch) None)
       go true = refl
       go false = refl
 
@@ -37,7 +36,7 @@ module _ (a : ℕ) where
   unfolding verb_of first_of
   not_write w = rw (ne_eqb a WRITE w) (go (eqb a READ) (eqb a CLEAR) (eqb a PUNCH))
     where
-      go : (r c p : Bool) → asks (cond r (some Read) (cond c (some Clear) (cond p (some Punch) none))) is_write ≡ false
+      go : (r c p : Bool) → asks (cond r (Some Read) (cond c (Some Clear) (cond p (Some Punch) None))) is_write ≡ false
       go true c p = refl
       go false true p = refl
       go false false true = refl
@@ -48,7 +47,7 @@ module _ (a : ℕ) where
   unfolding verb_of first_of
   may_list c p = rw (ne_eqb a CLEAR c, ne_eqb a PUNCH p) (go (eqb a READ) (eqb a WRITE))
     where
-      go : (r w : Bool) → asks (cond r (some Read) (cond w (some Write) none)) (λ (v : Verb). is_clear v || is_punch v) ≡ false
+      go : (r w : Bool) → asks (cond r (Some Read) (cond w (Some Write) None)) (λ (v : Verb). is_clear v || is_punch v) ≡ false
       go true w = refl
       go false true = refl
       go false false = refl

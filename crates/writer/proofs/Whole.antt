@@ -1,8 +1,8 @@
 -- The answer put together: which refusal comes first, and that the pieces are the CDB and the segment of the book.
+use Rattle.std.specs.Prelude.{is_some, Option, None, Some}
 use Prim.Native.Nat.{ℕ, ◌%◌, ◌≤◌, ◌<◌}
 use mathlib.Core.Path.{◌≡◌, refl, ap, sym, ◌∙◌}
 use mathlib.Core.Bool.{Bool, true, false, cond, ◌||◌, not, or-true}
-use mathlib.Core.Option.{Option, none, some}
 use mathlib.Core.List.{List, [], ◌∷◌, ◌++◌}
 use native.Mathlib.Nat.{le_refl}
 use native.Mathlib.Omega.{arith}
@@ -10,7 +10,7 @@ use lib.ListN.{length}
 use lib.Dec.{eqb, ltb}
 use borrow.Author.Tests.{lt-ltb, le-ltb, not-true, not-false}
 use Rattle.rules.specs.Bytes.{Bytes, laid}
-use Rattle.rules.specs.Tests.{Test, test, first_of, is_some}
+use Rattle.rules.specs.Tests.{Test, test, first_of}
 use Rattle.rules.specs.Command.{verb_of}
 use Rattle.rules.specs.Writer.{Request, entries, extended, length_for, segment_for, cdb_for, refusals, writes, written}
 use Rattle.rules.proofs.Laying.{laid_first}
@@ -35,25 +35,25 @@ abbrev Give : (n : ℕ) → List (Test ℕ) → Type 0
 Give n [] = Unit {0}
 Give n (t ∷ ts) = (t.gives ≡ n) × Give n ts
 
-grouped : (n : ℕ) (ts us : List (Test ℕ)) → Give n ts → first_of (ts ++ us) ≡ cond (is_some (first_of ts)) (some n) (first_of us)
+grouped : (n : ℕ) (ts us : List (Test ℕ)) → Give n ts → first_of (ts ++ us) ≡ cond (is_some (first_of ts)) (Some n) (first_of us)
 unfolding first_of
 grouped n [] us g = refl
 grouped n (t ∷ ts) us g = go t.holds (grouped n ts us g.1)
   where
-    go : (b : Bool) → first_of (ts ++ us) ≡ cond (is_some (first_of ts)) (some n) (first_of us)
-        → cond b (some t.gives) (first_of (ts ++ us)) ≡ cond (is_some (cond b (some t.gives) (first_of ts))) (some n) (first_of us)
-    go true e = ap some g.0
+    go : (b : Bool) → first_of (ts ++ us) ≡ cond (is_some (first_of ts)) (Some n) (first_of us)
+        → cond b (Some t.gives) (first_of (ts ++ us)) ≡ cond (is_some (cond b (Some t.gives) (first_of ts))) (Some n) (first_of us)
+    go true e = ap Some g.0
     go false e = e
 
 -- seven tests refuse with 16, and the five of the list may be taken as one
 ordered : (q : Request) (c s : ℕ)
     → first_of (refusals q c s)
-    ≡ cond (not (is_some (verb_of q.action))) (some 16)
-    (cond (capabilities_refused q) (some 16)
-    (cond (is_some (first_of (list_tests q))) (some 16) (cond (ltb c 236 || ltb s (length (segment_for q))) (some 17) none)))
+    ≡ cond (not (is_some (verb_of q.action))) (Some 16)
+    (cond (capabilities_refused q) (Some 16)
+    (cond (is_some (first_of (list_tests q))) (Some 16) (cond (ltb c 236 || ltb s (length (segment_for q))) (Some 17) None)))
 unfolding refusals list_tests first_of
 ordered q c s =
-    ap (λ (o : Option ℕ). cond (not (is_some (verb_of q.action))) (some 16) (cond (capabilities_refused q) (some 16) o))
+    ap (λ (o : Option ℕ). cond (not (is_some (verb_of q.action))) (Some 16) (cond (capabilities_refused q) (Some 16) o))
     (grouped 16 (list_tests q) (test 17 (ltb c 236 || ltb s (length (segment_for q))) ∷ []) (refl, (refl, (refl, (refl, (refl, tt))))))
 
 -- what the plan says
@@ -107,7 +107,7 @@ ready {q} {t} {a} {b} {p} ea na eb nb ep lp =
     }
 
 -- then only the buffers can be too short
-open_ended : {q : Request} {t : ℕ} → Ready q t → (c s : ℕ) → first_of (refusals q c s) ≡ cond (ltb c 236 || ltb s (length (segment_for q))) (some 17) none
+open_ended : {q : Request} {t : ℕ} → Ready q t → (c s : ℕ) → first_of (refusals q c s) ≡ cond (ltb c 236 || ltb s (length (segment_for q))) (Some 17) None
 open_ended {q} {t} k c s = ordered q c s ∙ rw (k.known, k.sized, (plan_length q t k.plan).0)
 
 pub acceptable : {q : Request} {t : ℕ} → Ready q t → Accepted q
@@ -123,7 +123,7 @@ need_is {q} k =
 
 -- each answer, `r`, where both buffers stay as they are
 module _ (q : Request) (c s : Bytes) {r : Written} where
-  refusing : (n : ℕ) → first_of (refusals q (length c) (length s)) ≡ some n → (r.number ≡ n) × (r.size ≡ 0) → Wrote (written q c s) r c s
+  refusing : (n : ℕ) → first_of (refusals q (length c) (length s)) ≡ Some n → (r.number ≡ n) × (r.size ≡ 0) → Wrote (written q c s) r c s
   unfolding written writes
   refusing n e a = rw e (record { number = a.0; size = a.1; cdb = refl; segment = refl })
 
@@ -159,7 +159,7 @@ module _ (q : Request) (c s : Bytes) {r : Written} where
   carried_out {t} {n} k e hc hs ec es a =
       let is : n ≡ length (segment_for q) = e ∙ need_is k in
       let total : t ≡ length_for q = (plan_length q t k.plan).1 in
-      let none_left : first_of (refusals q (length c) (length s)) ≡ none =
+      let none_left : first_of (refusals q (length c) (length s)) ≡ None =
       open_ended k (length c) (length s) ∙ rw (le-ltb (length c) 236 hc, le-ltb (length s) (length (segment_for q)) (omega arith)) in
       rw none_left
       (record {

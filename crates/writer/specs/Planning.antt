@@ -1,7 +1,7 @@
 -- What the writer knows of a request before it looks at the buffers.
-use Rattle.std.specs.Prelude.{ℕ, Bool, cond, List, take, drop}
+use Rattle.std.specs.Prelude.{is_some, ℕ, Bool, cond, List, take, drop}
 use Rattle.rules.specs.Bytes.{Bytes}
-use Rattle.rules.specs.Tests.{Test, first_of, is_some}
+use Rattle.rules.specs.Tests.{Test, first_of}
 use Rattle.rules.specs.Writer.{Request, length_for, refusals}
 use Rattle.writer.specs.declared.Plan.{Plan}
 use Rattle.writer.specs.declared.Plan.TheVariants.{Length, Refused}

@@ -4,10 +4,9 @@
 
 #![tactic(auto)]
 
-ghost use Rattle.std.specs.Prelude.{◌≡◌, true, ◌||◌, not, ◌++◌, ◌+◌, ◌≤◌, ◌*◌, ℕ, ◌%◌, eqb, ltb, length};
+ghost use Rattle.std.specs.Prelude.{is_some, ◌≡◌, true, ◌||◌, not, ◌++◌, ◌+◌, ◌≤◌, ◌*◌, ℕ, ◌%◌, eqb, ltb, length};
 ghost use Rattle.rules.specs.Bytes.{to_be, laid, Bytes};
 ghost use Rattle.rules.specs.Writer.{paired, spelled, written};
-ghost use Rattle.rules.specs.Tests.{is_some};
 ghost use Rattle.rules.specs.Command.{verb_of};
 ghost use Rattle.writer.specs.CdbParts.{cdb_parts};
 ghost use Rattle.writer.specs.SegmentParts.{segment_head, list_part, extension_part, segment_parts, size_for};

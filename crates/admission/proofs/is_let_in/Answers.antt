@@ -19,19 +19,19 @@ all_inside-requires c =
     c.requires _ _ _ _ _
     c.note_all-n.ensures in
     let k = lies _ _ _ c.requires.list
-    c.in-At.is in
+    c.in-Some.is in
     search rules
 
-pub returns-in-Absent : goal.returns-in-Absent
-returns-in-Absent c =
+pub returns-in-None : goal.returns-in-None
+returns-in-None c =
     sole_let_in _ _ _ _ c.requires
     _ _ _ _ _ c.note_all-n.ensures
-    (search rules) c.in-Absent.is _
+    (search rules) c.in-None.is _
     c.lies_inside.ensures
 
-pub returns-in-At : goal.returns-in-At
-returns-in-At c =
+pub returns-in-Some : goal.returns-in-Some
+returns-in-Some c =
     list_let_in _ _ _ _ c.requires
     _ _ _ _ _ c.note_all-n.ensures
-    (search rules) _ c.in-At.is _
+    (search rules) _ c.in-Some.is _
     c.all_inside.ensures

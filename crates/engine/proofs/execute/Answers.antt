@@ -1,7 +1,6 @@
 -- `engine::execute` meets its contract: each action leaves the answer that the decision asks for.
 use borrow.Author.Rules.{rules}
-use Rattle.engine.proofs.Deciding.{refused_told, read_ends, for_read, was_read, write_ends, for_write, was_written, for_clear}
-use Rattle.engine.proofs.Deciding.{was_cleared, for_punch, was_punched}
+use Rattle.engine.proofs.Deciding.{refused_told, read_ends, for_read, was_read, write_ends, for_write, was_written, for_clear, was_cleared, for_punch, was_punched}
 use Rattle.engine.proofs.execute.Goals as goal
 
 pub slice_bounds-read-end : goal.slice_bounds-read-end

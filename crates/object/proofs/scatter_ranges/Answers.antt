@@ -6,28 +6,28 @@ use Rattle.object.proofs.scatter_ranges.Goals as goal
 
 pub write_range-requires : goal.write_range-requires
 write_range-requires c =
-    write_asks c.requires c.in-Absent.is _
+    write_asks c.requires c.in-None.is _
     c.sole_range.ensures
 
-pub returns-in-Absent : goal.returns-in-Absent
-returns-in-Absent c =
+pub returns-in-None : goal.returns-in-None
+returns-in-None c =
     sole_written c.requires
-    c.in-Absent.is _ c.sole_range.ensures _ _ _
+    c.in-None.is _ c.sole_range.ensures _ _ _
     c.write_range.ensures
 
 pub grow-requires : goal.grow-requires
-grow-requires c = let grows = grow_asks c.requires _ c.in-At.is in
+grow-requires c = let grows = grow_asks c.requires _ c.in-Some.is in
     search rules
 
 pub scatter_list-requires : goal.scatter_list-requires
 scatter_list-requires c = let p = c.requires in
-    let e = c.in-At.is in
+    let e = c.in-Some.is in
     let k = c.entries_of.ensures in
     record { within = scatter_asks p _ e _ k; room = scatter_reaches p _ e _ k _ _ refl c.grow.ensures }
 
-pub returns-in-At : goal.returns-in-At
-returns-in-At c =
+pub returns-in-Some : goal.returns-in-Some
+returns-in-Some c =
     list_written c.requires
-    _ c.in-At.is _
+    _ c.in-Some.is _
     c.entries_of.ensures _ _ _ _
     c.grow.ensures c.scatter_list.ensures

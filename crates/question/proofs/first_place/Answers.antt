@@ -10,20 +10,20 @@ returns-then-is_match c =
     (both_pass _ _ _ _ _ c.is_inside.ensures c.if-is_inside.true
     c.is_match.ensures c.if-is_match.true)
 
-pub returns-in-Absent : goal.returns-in-Absent
-returns-in-Absent c =
+pub returns-in-None : goal.returns-in-None
+returns-in-None c =
     in_neither _ _ _ _ _ _ c.sought_by-by.ensures
     (elim c.if-is_inside.branch [
       | then-is_inside+else-is_match w ↦ no_match _ _ _ _ w.is_match.ensures w.if-is_match.false
       | else-is_inside w ↦ range_outside _ _ _ _ c.is_inside.ensures w.if-is_inside.false
     ])
-    c.in-Absent.is
+    c.in-None.is
 
-pub returns-in-At : goal.returns-in-At
-returns-in-At c =
+pub returns-in-Some : goal.returns-in-Some
+returns-in-Some c =
     in_extension _ _ _ _ _ _ c.sought_by-by.ensures
     (elim c.if-is_inside.branch [
       | then-is_inside+else-is_match w ↦ no_match _ _ _ _ w.is_match.ensures w.if-is_match.false
       | else-is_inside w ↦ range_outside _ _ _ _ c.is_inside.ensures w.if-is_inside.false
     ])
-    _ c.in-At.is _ c.first_extension.ensures
+    _ c.in-Some.is _ c.first_extension.ensures

@@ -8,8 +8,8 @@ overflow_add-result c =
     c.standing_at-standing.ensures _ c.in-Entries.is in
     omega arith
 
-pub overflow_add-result-in-Absent-extension : goal.overflow_add-result-in-Absent-extension
-overflow_add-result-in-Absent-extension c =
+pub overflow_add-result-in-None-extension : goal.overflow_add-result-in-None-extension
+overflow_add-result-in-None-extension c =
     let l = extension_ends _ _ c.args.found _
     c.standing_at-standing.ensures _ c.in-Extensions.is in
     omega arith
@@ -20,19 +20,19 @@ returns-in-End c = ends _ _ _ _ c.standing_at-standing.ensures c.in-End.is
 pub returns-in-Fault : goal.returns-in-Fault
 returns-in-Fault c = faults _ _ _ _ c.standing_at-standing.ensures _ c.in-Fault.is
 
-pub returns-in-At : goal.returns-in-At
-returns-in-At c =
+pub returns-in-Some : goal.returns-in-Some
+returns-in-Some c =
     list_again _ _ _ _ c.standing_at-standing.ensures _ _
-    c.in-Entries.is c.in-At.is
+    c.in-Entries.is c.in-Some.is
 
-pub returns-in-Absent : goal.returns-in-Absent
-returns-in-Absent c =
-    list_on _ _ _ _ c.standing_at-standing.ensures _ c.in-Entries.is c.in-Absent.is
+pub returns-in-None : goal.returns-in-None
+returns-in-None c =
+    list_on _ _ _ _ c.standing_at-standing.ensures _ c.in-Entries.is c.in-None.is
 
-pub returns-in-At-extension : goal.returns-in-At-extension
-returns-in-At-extension c =
-    extension_again _ _ _ _ c.standing_at-standing.ensures _ _ c.in-Extensions.is c.in-At-extension.is
+pub returns-in-Some-extension : goal.returns-in-Some-extension
+returns-in-Some-extension c =
+    extension_again _ _ _ _ c.standing_at-standing.ensures _ _ c.in-Extensions.is c.in-Some-extension.is
 
-pub returns-in-Absent-extension : goal.returns-in-Absent-extension
-returns-in-Absent-extension c =
-    extension_on _ _ _ _ c.standing_at-standing.ensures _ c.in-Extensions.is c.in-Absent-extension.is
+pub returns-in-None-extension : goal.returns-in-None-extension
+returns-in-None-extension c =
+    extension_on _ _ _ _ c.standing_at-standing.ensures _ c.in-Extensions.is c.in-None-extension.is

@@ -3,8 +3,7 @@ use native.Mathlib.Omega.{arith}
 use borrow.Author.Rules.{rules}
 use Rattle.rules.proofs.Accepted.{one_given, fits_field}
 use Rattle.writer.specs.Planning.{request}
-use Rattle.writer.proofs.Whole.{Ready, ready, acceptable, list_fits}
-use Rattle.writer.proofs.Whole.{unknown, unsized, unplanned, short_cdb, short_segment, carried_out}
+use Rattle.writer.proofs.Whole.{Ready, ready, acceptable, list_fits, unknown, unsized, unplanned, short_cdb, short_segment, carried_out}
 use Rattle.writer.proofs.write_command.Goals as goal
 use Rattle.writer.proofs.write_command.Goals.{In-Length}
 
