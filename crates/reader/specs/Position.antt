@@ -8,14 +8,9 @@ use Rattle.rules.specs.declared.Here.TheVariants.{End, Entries, Extensions}
 use Rattle.rules.specs.declared.Found.{Found}
 use Rattle.rules.specs.Bytes.{Bytes}
 use Rattle.rules.specs.Segment.{here, next, nothing}
-use Rattle.segment.specs.declared.Step.{Step}
-use Rattle.segment.specs.declared.Step.TheVariants.{Stop, On}
-use Rattle.segment.specs.Step.{stepped}
-use Rattle.reader.specs.declared.Position.{Position}
-
--- descriptors stand from byte 40 on, and nothing is found before the first
-abbrev pub start : Position
-start = record { at = 40; found = nothing }
+use Rattle.segment.specs.Step.{Step, stepped}
+use Rattle.std.specs.declared.ops.ControlFlow.TheVariants.{Continue, Break}
+use Rattle.segment.specs.declared.Position.{Position}
 
 -- a descriptor whose type was met before is a fault
 abbrev pub newly : Option Part → Result Here Cause → Result Here Cause
@@ -34,12 +29,12 @@ met s p = met_by p.found (here s p.at)
 
 -- the position behind what stands at p, or p itself where the walk stops
 abbrev pub passed : Position → Step → Position
-passed p (Stop w) = p
-passed p (On at f) = record { at = at; found = f }
+passed p (Break w) = p
+passed p (Continue q) = q
 
 unfoldable pub after : (steps : ℕ) → Bytes → Position → Position
 after zero s p = p
-after (suc n) s p = after n s (passed p (stepped s p.at p.found))
+after (suc n) s p = after n s (passed p (stepped s p))
 
 -- where the n-th descriptor behind the one at `at` stands, by the lengths in the headers between
 unfoldable pub behind : (n : ℕ) → Bytes → (at : ℕ) → ℕ

@@ -1,19 +1,47 @@
-// A reader that holds a lent segment together with a position in it, and thin functions over it. No function over the struct has a
-// branch, a match or a loop: those are in the functions over a plain slice and a position, which take their steps from `segment`.
+// A reader that holds a lent segment together with a position in it, and thin methods over it. No method has a branch, a match or a
+// loop: those are in the functions over a plain slice and a position, which take their steps from `segment`.
 
 #![tactic(auto)]
 
 ghost use Rattle.std.specs.Prelude.{◌≡◌};
-ghost use Rattle.reader.specs.Position.{start, met, after, left};
+ghost use Rattle.segment.specs.Step.{start};
+ghost use Rattle.reader.specs.Position.{met, after, left};
 
-use rules::{Found, Here, Spot, Walk};
-use segment::Step;
+use rules::{Cause, Here};
+use segment::Position;
+use std::ops::ControlFlow;
 
-// Where a walk stands: at which byte, with what it has found by then.
-#[derive(Clone, Copy)]
-pub struct Position {
-    pub at: usize,
-    pub found: Found,
+// What the walk meets at a position: a descriptor, the end, or a fault.
+#[tactic(auto, using(crate::proofs::Stepping::meeting))]
+fn met_at(s: &[u8], position: Position) -> Result<Here, Cause>
+    ensures { result ≡ met s.now position }
+{
+    match segment::step_from(s, position) {
+        ControlFlow::Break(Ok(_)) => Ok(Here::End),
+        ControlFlow::Break(Err(fault)) => Err(fault.cause),
+        ControlFlow::Continue(_) => segment::standing_at(s, position.at),
+    }
+}
+
+// The position that a walk comes to in `steps` steps. It stays where the walk stops.
+fn position_after(s: &[u8], position: Position, steps: usize) -> Position
+    ensures { result ≡ after steps s.now position }
+{
+    let mut reached = position;
+    for _ in 0..steps {
+        match segment::step_from(s, reached) {
+            ControlFlow::Break(_) => return reached,
+            ControlFlow::Continue(next) => reached = next,
+        }
+    }
+    reached
+}
+
+// How many bytes there are from a position on: none past the end.
+fn left_from(s: &[u8], position: Position) -> usize
+    ensures { result ≡ left s.now position }
+{
+    s.len().saturating_sub(position.at)
 }
 
 #[derive(Clone, Copy)]
@@ -22,107 +50,45 @@ pub struct Reader<'a> {
     pub position: Position,
 }
 
-// The first descriptor's position, with nothing found.
-fn first_position() -> Position
-    ensures { result ≡ start }
-{
-    Position {
-        at: 40,
-        found: Found {
-            list: Spot::Absent,
-            extension: Spot::Absent,
-        },
-    }
-}
-
-// What the walk meets at a position: a descriptor, the end, or a fault.
-fn met_at(s: &[u8], position: Position) -> Here
-    ensures { result ≡ met s.now position }
-{
-    let at = position.at;
-    let found = position.found;
-    let step = segment::step_from(s, at, found);
-    match step {
-        Step::Stop(walk) => match walk {
-            Walk::Whole(_) => Here::End,
-            Walk::Broken(cause, _) => Here::Fault(cause),
-        },
-        Step::On(_, _) => segment::standing_at(s, at),
-    }
-}
-
-// The position that a walk comes to in `steps` steps. It stays where the walk stops.
-fn position_after(s: &[u8], position: Position, steps: usize) -> Position
-    ensures { result ≡ after steps s.now position }
-{
-    let mut at = position.at;
-    let mut found = position.found;
-    let mut more = steps;
-    while more > 0 {
-        let step = segment::step_from(s, at, found);
-        match step {
-            Step::Stop(_) => more = 0,
-            Step::On(next, now) => {
-                at = next;
-                found = now;
-                more -= 1;
-            }
+impl<'a> Reader<'a> {
+    // A reader at the segment's first descriptor.
+    pub fn first_of(segment: &'a [u8]) -> Reader<'a>
+        ensures { (result.segment ≡ segment.entry) × (result.position ≡ start) }
+    {
+        Reader {
+            segment,
+            position: segment::first_position(),
         }
     }
-    Position {
-        at: at,
-        found: found,
+
+    // What stands where the reader is.
+    pub fn step(self) -> Result<Here, Cause>
+        ensures { result ≡ met self.entry.segment.now self.entry.position }
+    {
+        met_at(self.segment, self.position)
     }
-}
 
-// How many bytes there are from a position on: none past the end.
-fn left_from(s: &[u8], position: Position) -> usize
-    ensures { result ≡ left s.now position }
-{
-    let at = position.at;
-    if s.len() < at {
-        return 0;
+    // The reader moved past as many descriptors as `steps`. It stays before the end and before a fault.
+    pub fn moved(self, steps: usize) -> Reader<'a>
+        ensures { (result.segment ≡ self.entry.segment) × (result.position ≡ after steps self.entry.segment.now self.entry.position) }
+    {
+        Reader {
+            position: position_after(self.segment, self.position, steps),
+            ..self
+        }
     }
-    s.len() - at
-}
 
-// A reader at the segment's first descriptor.
-pub fn first_of<'a>(segment: &'a [u8]) -> Reader<'a>
-    ensures { (result.segment ≡ segment.entry) × (result.position ≡ start) }
-{
-    Reader {
-        segment,
-        position: first_position(),
+    // How many bytes of the segment the reader has before it.
+    pub fn left(self) -> usize
+        ensures { result ≡ left self.entry.segment.now self.entry.position }
+    {
+        left_from(self.segment, self.position)
     }
-}
-
-// What stands where the reader is.
-pub fn step<'a>(reader: Reader<'a>) -> Here
-    ensures { result ≡ met reader.entry.segment.now reader.entry.position }
-{
-    met_at(reader.segment, reader.position)
-}
-
-// The reader moved past as many descriptors as `steps`. It stays before the end and before a fault.
-pub fn moved<'a>(reader: Reader<'a>, steps: usize) -> Reader<'a>
-    ensures { (result.segment ≡ reader.entry.segment) × (result.position ≡ after steps reader.entry.segment.now reader.entry.position) }
-{
-    Reader {
-        segment: reader.segment,
-        position: position_after(reader.segment, reader.position, steps),
-    }
-}
-
-// How many bytes of the segment the reader has before it.
-pub fn left_of<'a>(reader: Reader<'a>) -> usize
-    ensures { result ≡ left reader.entry.segment.now reader.entry.position }
-{
-    left_from(reader.segment, reader.position)
 }
 
 // What stands behind the segment's first `n` descriptors: its next descriptor, the end or the first fault.
-pub fn nth_of(segment: &[u8], n: usize) -> Here
+pub fn nth_of(segment: &[u8], n: usize) -> Result<Here, Cause>
     ensures { result ≡ met segment.now (after n segment.now start) }
 {
-    step(moved(first_of(segment), n))
+    Reader::first_of(segment).moved(n).step()
 }

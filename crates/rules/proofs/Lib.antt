@@ -1,4 +1,5 @@
 pub mod Booleans
+pub mod Verbs
 pub mod Lists
 pub mod BigEndian
 pub mod First

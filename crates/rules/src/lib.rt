@@ -21,9 +21,10 @@ impl Record {
     pub fn with_length(self, logical: u64) -> Record
         ensures { result ≡ lengthened self logical }
     {
-        let mut next = self;
-        next.length = logical;
-        next
+        Record {
+            length: logical,
+            ..self
+        }
     }
 
     // After PUNCH: the record of an object that has lost `count` bytes.
@@ -66,6 +67,7 @@ impl TryFrom<u64> for Verb {
 
     ghost try_from_gives = { IsReadVerb };
 
+    #[tactic(auto, using(crate::proofs::Verbs::verbs))]
     fn try_from(action: u64) -> Result<Verb, Refusal> {
         match action {
             READ => Ok(Verb::Read),

@@ -3,212 +3,156 @@
 
 #![tactic(auto)]
 
-ghost use Rattle.std.specs.Prelude.{◌≡◌, ◌&&◌, not, ◌+◌, ◌≤◌, ◌%◌, eqb, length, drop};
-ghost use Rattle.rules.specs.Bytes.{blank};
+ghost use Rattle.std.specs.Prelude.{◌≡◌, ◌&&◌, not, ◌+◌, ◌≤◌, ◌%◌, eqb, ◌==◌, length, drop};
+ghost use Rattle.std.specs.List.{list_all};
 ghost use Rattle.rules.specs.Tests.{first_of};
-ghost use Rattle.rules.specs.Segment.{size_at, faults, entries_here, extensions_here, here, entry_at, walk};
+ghost use Rattle.rules.specs.Segment.{size_at, data_at, faults, here, entry_at, walk};
 ghost use Rattle.segment.specs.Verdict.{judged};
-ghost use Rattle.segment.specs.Step.{stepped};
+ghost use Rattle.segment.specs.Step.{start, stepped};
 
-use rules::{Cause, Found, Here, Part, Range, Spot, Walk};
+use rules::{Cause, Fault, Found, Here, Part, Range};
+use std::ops::ControlFlow;
 
-// Whether a descriptor of a known type is sound, or what it is refused for.
-#[derive(Clone, Copy)]
-enum Verdict {
-    Sound,
-    Faulty(Cause),
-}
-
-// Whether every byte from `at` on is zero.
-fn is_blank(s: &[u8], at: usize) -> bool
-    requires { at ≤ length s.now }
-    ensures { result ≡ blank (drop at s.now) }
+fn is_blank(bytes: &[u8]) -> bool
+    ensures { result ≡ list_all (λ b. b == 0) bytes.now }
 {
-    let mut i = at;
-    while i < s.len() {
-        if s[i] != 0 {
-            return false;
-        }
-        i += 1;
-    }
-    true
+    bytes.iter().all(|byte| *byte == 0)
 }
 
-// Lengths are compared with what is left from the header on, so that no sum can wrap.
-fn judge(s: &[u8], at: usize, size: usize, supported: usize, fits: bool) -> Verdict
+// Where the data of a descriptor of a known type stands, or what it is refused for. Lengths are compared with what is left from the
+// header on, so that no sum can wrap.
+fn judge(s: &[u8], at: usize, size: usize, supported: usize, fits: bool) -> Result<Part, Cause>
     requires { (at + 8 ≤ length s.now) × (size ≡ size_at s.now at) × (supported ≤ 1024) }
-    ensures { result ≡ judged (first_of (faults supported fits s.now at)) }
+    ensures { result ≡ judged (first_of (faults supported fits s.now at)) (data_at s.now at) }
 {
     if supported < size {
-        return Verdict::Faulty(Cause::Over);
+        return Err(Cause::Over);
     }
     let pad = (s[at + 3] % 8) as usize;
     if (size + pad) % 8 != 0 {
-        return Verdict::Faulty(Cause::Padding);
+        return Err(Cause::Padding);
     }
     if !fits {
-        return Verdict::Faulty(Cause::Misfit);
+        return Err(Cause::Misfit);
     }
     if s.len() - at < 8 + size + pad {
-        return Verdict::Faulty(Cause::Past);
+        return Err(Cause::Past);
     }
-    Verdict::Sound
-}
-
-fn entries_at(s: &[u8], at: usize) -> Here
-    requires { at + 8 ≤ length s.now }
-    ensures { result ≡ entries_here s.now at }
-{
-    let size = wire::get32(s, at + 4) as usize;
-    let verdict = judge(s, at, size, 1024, size % 16 == 0);
-    match verdict {
-        Verdict::Sound => Here::Entries(Part {
-            at: at + 8,
-            size: size,
-        }),
-        Verdict::Faulty(cause) => Here::Fault(cause),
-    }
+    Ok(Part { at: at + 8, size })
 }
 
 // One capability or more, and no part of one.
 fn holds_capabilities(size: usize) -> bool
     ensures { result ≡ (eqb (size % 104) 0 && not (eqb size 0)) }
 {
-    if size == 0 {
-        return false;
-    }
-    size % 104 == 0
-}
-
-fn extensions_at(s: &[u8], at: usize) -> Here
-    requires { at + 8 ≤ length s.now }
-    ensures { result ≡ extensions_here s.now at }
-{
-    let size = wire::get32(s, at + 4) as usize;
-    let verdict = judge(s, at, size, 832, holds_capabilities(size));
-    match verdict {
-        Verdict::Sound => Here::Extensions(Part {
-            at: at + 8,
-            size: size,
-        }),
-        Verdict::Faulty(cause) => Here::Fault(cause),
-    }
+    size != 0 && size % 104 == 0
 }
 
 // What stands at a position, also at one past the segment's end, where nothing is left.
-#[tactic(auto, using(crate::proofs::Standing::standings, rules::proofs::Segment::end_here))]
-pub fn standing_at(s: &[u8], at: usize) -> Here
+#[tactic(auto, using(crate::proofs::Faults::descriptors, crate::proofs::Standing::standings, rules::proofs::Segment::end_here))]
+pub fn standing_at(s: &[u8], at: usize) -> Result<Here, Cause>
     ensures { result ≡ here s.now at }
 {
     if s.len() < at {
-        return Here::End;
+        return Ok(Here::End);
     }
     if s.len() - at < 8 {
-        if is_blank(s, at) {
-            return Here::End;
+        if is_blank(&s[at..]) {
+            return Ok(Here::End);
         }
-        return Here::Fault(Cause::Remainder);
+        return Err(Cause::Remainder);
     }
-    let kind = wire::get16(s, at);
-    if kind == 0x0000 {
-        return Here::End;
+    let size = wire::get32(s, at + 4) as usize;
+    match wire::get16(s, at) {
+        0x0000 => Ok(Here::End),
+        0x0001 => Ok(Here::Entries(judge(s, at, size, 1024, size % 16 == 0)?)),
+        0xFFEE => Ok(Here::Extensions(judge(s, at, size, 832, holds_capabilities(size))?)),
+        _ => Err(Cause::Unknown),
     }
-    if kind == 0x0001 {
-        return entries_at(s, at);
-    }
-    if kind == 0xFFEE {
-        return extensions_at(s, at);
-    }
-    Here::Fault(Cause::Unknown)
 }
 
 // A list entry where it stands.
+#[tactic(auto, unfolding(rules::specs::Segment::entry_at))]
 pub fn entry_at(s: &[u8], at: usize) -> Range
     requires { at + 16 ≤ length s.now }
     ensures { result ≡ entry_at s.now at }
 {
-    let start = wire::get64(s, at);
-    let size = wire::get64(s, at + 8);
     Range {
-        start: start,
-        size: size,
+        start: wire::get64(s, at),
+        size: wire::get64(s, at + 8),
     }
 }
 
 // ---- the walk
 
-// Where a walk goes from a position: it ends, or goes on at the next one with what is found by then.
+// Where a walk stands: at which byte, with what it has found by then.
 #[derive(Clone, Copy)]
-pub enum Step {
-    Stop(Walk),
-    On(usize, Found),
+pub struct Position {
+    pub at: usize,
+    pub found: Found,
 }
 
-pub fn step_from(s: &[u8], at: usize, found: Found) -> Step
-    ensures { result ≡ stepped s.now at found }
+// A step of the walk: it breaks off with what the walk comes to, or goes on behind the descriptor that it has met.
+#[tactic(auto, using(crate::proofs::Walking::stepping))]
+pub fn step_from(s: &[u8], position: Position) -> ControlFlow<Result<Found, Fault>, Position>
+    ensures { result ≡ stepped s.now position }
 {
-    let list = found.list;
-    let extension = found.extension;
-    let standing = standing_at(s, at);
-    match standing {
-        Here::End => Step::Stop(Walk::Whole(found)),
-        Here::Fault(cause) => Step::Stop(Walk::Broken(cause, at)),
-        Here::Entries(part) => match list {
-            Spot::At(_) => Step::Stop(Walk::Broken(Cause::Repeated, at)),
-            Spot::Absent => Step::On(
-                part.at + part.size,
-                Found {
-                    list: Spot::At(part),
-                    extension: extension,
+    let Position { at, found } = position;
+    match standing_at(s, at) {
+        Err(cause) => ControlFlow::Break(Err(Fault { cause, at })),
+        Ok(Here::End) => ControlFlow::Break(Ok(found)),
+        Ok(Here::Entries(part)) => match found.list {
+            Some(_) => ControlFlow::Break(Err(Fault {
+                cause: Cause::Repeated,
+                at,
+            })),
+            None => ControlFlow::Continue(Position {
+                at: part.at + part.size,
+                found: Found {
+                    list: Some(part),
+                    ..found
                 },
-            ),
+            }),
         },
-        Here::Extensions(part) => match extension {
-            Spot::At(_) => Step::Stop(Walk::Broken(Cause::Repeated, at)),
-            Spot::Absent => Step::On(
-                part.at + part.size,
-                Found {
-                    list: list,
-                    extension: Spot::At(part),
+        Ok(Here::Extensions(part)) => match found.extension {
+            Some(_) => ControlFlow::Break(Err(Fault {
+                cause: Cause::Repeated,
+                at,
+            })),
+            None => ControlFlow::Continue(Position {
+                at: part.at + part.size,
+                found: Found {
+                    extension: Some(part),
+                    ..found
                 },
-            ),
+            }),
         },
     }
 }
 
-// What the whole segment has, from its first descriptor on: a segment of fewer than 40 bytes has none.
-// It keeps list and extension in variables of their own. Steps that hand on all that was found would be copied at each descriptor.
+// The first descriptor's position, with nothing found. A segment of fewer than 40 bytes has none.
+pub fn first_position() -> Position
+    ensures { result ≡ start }
+{
+    Position {
+        at: 40,
+        found: Found {
+            list: None,
+            extension: None,
+        },
+    }
+}
+
+// What the whole segment has, from its first descriptor on, or its first fault.
 #[tactic(auto, using(crate::proofs::Walking::walking), unfolding(rules::specs::Segment::walk))]
-pub fn walk_over(s: &[u8]) -> Walk
+pub fn walk_over(s: &[u8]) -> Result<Found, Fault>
     ensures { result ≡ walk s.now }
 {
-    let mut at: usize = 40;
-    let mut list = Spot::Absent;
-    let mut extension = Spot::Absent;
+    let mut position = first_position();
     loop {
-        let standing = standing_at(s, at);
-        match standing {
-            Here::End => {
-                return Walk::Whole(Found {
-                    list: list,
-                    extension: extension,
-                })
-            }
-            Here::Fault(cause) => return Walk::Broken(cause, at),
-            Here::Entries(part) => match list {
-                Spot::At(_) => return Walk::Broken(Cause::Repeated, at),
-                Spot::Absent => {
-                    list = Spot::At(part);
-                    at = part.at + part.size;
-                }
-            },
-            Here::Extensions(part) => match extension {
-                Spot::At(_) => return Walk::Broken(Cause::Repeated, at),
-                Spot::Absent => {
-                    extension = Spot::At(part);
-                    at = part.at + part.size;
-                }
-            },
+        match step_from(s, position) {
+            ControlFlow::Continue(next) => position = next,
+            ControlFlow::Break(walk) => return walk,
         }
     }
 }
