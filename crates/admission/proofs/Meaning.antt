@@ -1,5 +1,5 @@
 -- What is found of all ranges is what the book says of the command that was read.
-use Rattle.std.specs.Prelude.{is_some, Option, None, Some}
+use Rattle.std.specs.Prelude.{Ok, is_some, Option, None, Some}
 use Rattle.rules.specs.declared.Part.{Part}
 use Prim.Native.Nat.{ℕ, ◌-◌, ◌/◌}
 use mathlib.Core.Path.{◌≡◌, refl, ap, sym, ◌∙◌}
@@ -19,7 +19,6 @@ use Rattle.capability.specs.Terms.{meets}
 use Rattle.capability.specs.Allowance.{allowance}
 use Rattle.capability.proofs.Allowance.{inside_is}
 use Rattle.header.specs.declared.Parsed.{Parsed}
-use Rattle.header.specs.declared.Reading.TheVariants.{Readable}
 use Rattle.header.specs.Reading.{said_by, reading_of}
 use Rattle.header.proofs.Rows.{Says, says}
 use Rattle.capability.specs.Sought.{admits_in}
@@ -101,6 +100,6 @@ module _ (c : Command) (p : Parsed) (s : Says c p) where
   says_admitted = admitted_is p.verb c ∙ ap (λ (q : Parsed). admitted_in c.cdb (segment c) q c.on) (sym s.said)
 
 -- ---- over the answer of the reading, and the part of Data-Out that the code takes for the segment
-module _ (c : Command) (p : Parsed) (e : reading_of c ≡ Readable p) where
+module _ (c : Command) (p : Parsed) (e : reading_of c ≡ Ok p) where
   pub part_admitted : (t : Bool) → t ≡ admitted_in c.cdb (take (p.segment - 0) c.out) p c.on → t ≡ admitted p.verb c
   part_admitted t q = q ∙ ap (λ (s : Bytes). admitted_in c.cdb s p c.on) (part_is c p e) ∙ sym (says_admitted c p (says c p e))

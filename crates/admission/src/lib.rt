@@ -2,12 +2,11 @@
 
 #![tactic(auto)]
 
-ghost use Rattle.std.specs.Prelude.{◌≡◌, [], ◌∷◌, ◌+◌, ◌<◌, ◌≤◌, ◌/◌, length, take};
+ghost use Rattle.std.specs.Prelude.{Ok, ◌≡◌, [], ◌∷◌, ◌+◌, ◌<◌, ◌≤◌, ◌/◌, length, take};
 ghost use Rattle.rules.specs.Bytes.{all};
 ghost use Rattle.rules.specs.Segment.{entries_from};
 ghost use Rattle.rules.specs.Writer.{paired};
 ghost use Rattle.rules.specs.Admission.{admitted};
-ghost use Rattle.header.specs.declared.Reading.TheVariants.{Readable};
 ghost use Rattle.header.specs.Reading.{command, reading_of};
 ghost use Rattle.segment.specs.Lying.{ListIn, ExtensionIn};
 ghost use Rattle.capability.specs.Sought.{Reads, sought_by};
@@ -149,7 +148,7 @@ fn is_let_in(cdb: &[u8], segment: &[u8], said: Parsed, on: Record) -> bool
 
 // Whether a command that was read is admitted.
 pub fn is_admitted(cdb: &[u8], out: &[u8], said: Parsed, on: Record) -> bool
-    requires { reading_of (command cdb.now out.now on) ≡ Readable said }
+    requires { reading_of (command cdb.now out.now on) ≡ Ok said }
     ensures { result ≡ admitted said.verb (command cdb.now out.now on) }
 {
     let end = said.segment;

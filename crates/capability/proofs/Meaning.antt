@@ -1,5 +1,5 @@
 -- The capabilities of a command that was read, as the book says of them.
-use Rattle.std.specs.Prelude.{Option}
+use Rattle.std.specs.Prelude.{Ok, Option}
 use Prim.Native.Nat.{◌-◌, ◌≤◌}
 use mathlib.Core.Path.{◌≡◌, refl, ap, sym, subst}
 use mathlib.Core.Bool.{Bool, ◌&&◌}
@@ -18,7 +18,6 @@ use Rattle.segment.proofs.Lying.{list_found, extension_found}
 use Rattle.capability.specs.declared.Sought.{Sought}
 use Rattle.capability.specs.Terms.{meets}
 use Rattle.header.specs.declared.Parsed.{Parsed}
-use Rattle.header.specs.declared.Reading.TheVariants.{Readable}
 use Rattle.header.specs.Reading.{said_by, reading_of}
 use Rattle.header.proofs.Rows.{Says, says, says_segment, sized}
 use Rattle.capability.specs.Sought.{sought_by, admits_in, Reads}
@@ -58,7 +57,7 @@ module _ (c : Command) (p : Parsed) (s : Says c p) where
       }
 
 -- ---- over the answer of the reading, and the part of Data-Out that the code takes for the segment
-module _ (c : Command) (p : Parsed) (e : reading_of c ≡ Readable p) where
+module _ (c : Command) (p : Parsed) (e : reading_of c ≡ Ok p) where
   said_so : Says c p
   said_so = says c p e
 

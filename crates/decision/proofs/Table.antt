@@ -1,5 +1,5 @@
 -- The table of rows over a command that was read: each row's test by what was read, and the decision from the first that holds.
-use Rattle.std.specs.Prelude.{is_some, Option, None, Some}
+use Rattle.std.specs.Prelude.{Err, is_some, Option, None, Some}
 use Rattle.rules.specs.declared.Part.{Part}
 use Prim.Native.Nat.{◌-◌, ◌≤◌, ◌<◌}
 use mathlib.Core.Path.{◌≡◌, refl, ap, sym, ◌∙◌}
@@ -26,7 +26,6 @@ use Rattle.rules.proofs.First.{hit, skip, none_left, ahead, behind}
 use Rattle.ranges.specs.Asked.{fault_in, beyond_in}
 use Rattle.ranges.specs.declared.Reach.TheVariants.{Within, Beyond}
 use Rattle.header.specs.declared.Parsed.{Parsed}
-use Rattle.header.specs.declared.Reading.TheVariants.{Unreadable}
 use Rattle.header.specs.Reading.{said_by, reading_of}
 use Rattle.segment.specs.Lying.{ListAt}
 use Rattle.segment.proofs.Lying.{list_found}
@@ -54,7 +53,7 @@ pub object_fits : (c : Command) (m : Room) → m.slice ≤ 16777216 → c.on.len
 unfolding object_unfit
 object_fits c m h k = rw (le-ltb _ _ h, le-ltb _ _ k)
 
-pub not_readable : (c : Command) (m : Room) (w : Refusal) → object_unfit c m ≡ false → reading_of c ≡ Unreadable w → Refuse w ≡ decision_of c m
+pub not_readable : (c : Command) (m : Room) (w : Refusal) → object_unfit c m ≡ false → reading_of c ≡ Err w → Refuse w ≡ decision_of c m
 unfolding refusal rows
 not_readable c m w o e = refuses c m w (skip _ _ o ∙ ahead (header c) _ w (unreadable c w e))
 

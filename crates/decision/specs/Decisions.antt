@@ -1,5 +1,5 @@
 -- What the decision answers, by the book's rows, and names for its parts over a command that was read.
-use Rattle.std.specs.Prelude.{Option, None, Some, ℕ, ◌/◌, ◌≡◌, Bool, false, cond, ◌&&◌, ◌||◌, ltb}
+use Rattle.std.specs.Prelude.{Ok, Option, None, Some, ℕ, ◌/◌, ◌≡◌, Bool, false, cond, ◌&&◌, ◌||◌, ltb}
 use Rattle.rules.specs.declared.Part.{Part}
 use Rattle.rules.specs.declared.Record.{Record}
 use Rattle.rules.specs.declared.Refusal.{Refusal}
@@ -15,7 +15,6 @@ use Rattle.ranges.specs.Asked.{fault_in, beyond_in}
 use Rattle.ranges.specs.declared.Reach.{Reach}
 use Rattle.ranges.specs.declared.Reach.TheVariants.{Within, Beyond}
 use Rattle.header.specs.declared.Parsed.{Parsed}
-use Rattle.header.specs.declared.Reading.TheVariants.{Readable}
 use Rattle.header.specs.Reading.{said_by, reading_of}
 use Rattle.header.specs.Ranges.{ranges_in}
 use Rattle.decision.specs.declared.Decision.{Decision}
@@ -43,7 +42,7 @@ room slice input = record { slice = slice; input = input }
 -- rows 1 to 8 don't refuse, and what was read
 pub record Open (c : Command) (m : Room) (p : Parsed) : Type 0 where
   pub object : object_unfit c m ≡ false
-  pub reading : reading_of c ≡ Readable p
+  pub reading : reading_of c ≡ Ok p
 
 -- nor do rows 9 to 11
 pub record LetIn (c : Command) (m : Room) (p : Parsed) : Type 0 where

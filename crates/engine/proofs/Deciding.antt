@@ -1,5 +1,5 @@
 -- From the decision to the action: what was decided says which answer is wanted, and that nothing hinders it.
-use Rattle.std.specs.Prelude.{Option, None, Some}
+use Rattle.std.specs.Prelude.{Ok, Option, None, Some}
 use Prim.Native.Nat.{ℕ, ◌+◌, ◌-◌, ◌≤◌}
 use mathlib.Core.Path.{◌≡◌, refl, ap, sym, subst, ◌∙◌}
 use mathlib.Core.Bool.{cond}
@@ -28,7 +28,6 @@ use Rattle.rules.proofs.Given.{alone, unlisted, sums, begun, ample, supplied, ra
 use Rattle.rules.proofs.Given as goal
 use Rattle.rules.proofs.Punch.{begins_within}
 use Rattle.header.specs.declared.Parsed.{Parsed}
-use Rattle.header.specs.declared.Reading.TheVariants.{Readable}
 use Rattle.header.specs.Reading.{said_by}
 use Rattle.header.specs.Ranges.{ranges_in}
 use Rattle.header.proofs.Rows.{read_by}
@@ -100,7 +99,7 @@ module _ {c : Command} {m : Room} {v : Verb} {p : Parsed} (t : Taken c m v p) wh
   open_to =
       record {
         object = passes.object;
-        reading = sym (read_by c v (header_none c m t.accepted) t.verb) ∙ ap Readable (sym t.said);
+        reading = sym (read_by c v (header_none c m t.accepted) t.verb) ∙ ap Ok (sym t.said);
       }
 
   ends : p.segment ≤ length c.out

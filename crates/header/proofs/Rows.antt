@@ -1,6 +1,6 @@
 -- The reading of a command, row by row: the tests that were made, as the book's rows have them.
-use Rattle.std.specs.Prelude.{is_some, Ok, Err, Option, None, Some}
-use Rattle.rules.specs.Segment.{fault, Walk, walk, nothing}
+use Rattle.std.specs.Prelude.{Result, Ok, Err, is_some, Option, None, Some}
+use Rattle.rules.specs.Segment.{Walk, walk, nothing}
 use Prim.Native.Nat.{ℕ, ◌-◌, ◌≤◌}
 use mathlib.Core.Path.{◌≡◌, refl, ap, sym, ◌∙◌}
 use mathlib.Core.Bool.{Bool, true, false, ◌&&◌, ◌||◌, not}
@@ -10,25 +10,23 @@ use native.Mathlib.Omega.{arith}
 use lib.Dec.{eqb, ltb}
 use lib.ListN.{length, take}
 use borrow.Author.Tests.{eqb-true, ne_eqb, le-ltb, ltb-false, not-false}
-use Rattle.rules.specs.declared.Cause.{Cause}
+use Rattle.std.specs.Option.{ok_or}
+use Rattle.rules.specs.declared.Fault.{Fault}
 use Rattle.rules.specs.declared.Found.{Found}
 use Rattle.rules.specs.declared.Refusal.{Refusal}
 use Rattle.rules.specs.declared.Refusal.TheVariants.{CdbMalformed, ActionUnknown, OtherObject, ContinuationLength, SegmentHeader, Descriptor, ListForbidden}
 use Rattle.rules.specs.declared.Verb.{Verb}
 use Rattle.rules.specs.Bytes.{Bytes, byte, field}
 use Rattle.rules.specs.Tests.{Test, test, first_of}
-use Rattle.rules.specs.Command.{Command, action, continuation, partition_of, object_of, start_of, length_of, segment, verb_of, verb, is_clear, is_punch}
+use Rattle.rules.specs.Command.{Command, action, continuation, partition_of, object_of, start_of, length_of, segment, verb_of, read_verb, verb, is_clear, is_punch}
 use Rattle.rules.specs.Reading.{walked, found, listed}
 use Rattle.rules.specs.Header.{cdb_malformed, action_unknown, front_rows, other_object, continued, continuation_wrong, segment_header_wrong, descriptor_faulty, list_forbidden, segment_rows, header}
 use Rattle.rules.proofs.Passed.{skips, header_passed}
 use Rattle.rules.proofs.Course.{has_verb}
 use Rattle.rules.proofs.First.{hit, skip, none_left, ahead, behind}
 use Rattle.rules.proofs.Booleans.{or_false_parts}
-use Rattle.header.specs.declared.Named.{Named}
-use Rattle.header.specs.declared.Named.TheVariants.{Known, Unknown}
 use Rattle.header.specs.declared.Parsed.{Parsed}
-use Rattle.header.specs.declared.Reading.TheVariants.{Unreadable, Readable}
-use Rattle.header.specs.Reading.{named, said_by, settled, front_of, other_than, segment_of, reading_of, Opened}
+use Rattle.header.specs.Reading.{Reading, said_by, settled, front_of, other_than, segment_of, reading_of, Opened}
 
 -- ---- an answer, and what it says of the rows that were asked
 
@@ -39,7 +37,7 @@ pub record Settled (o : Option Refusal) (u : Option Verb) (cdb : Bytes) (f : Fou
   pub said : p ≡ said_by p.verb cdb f
 
 module _ (cdb : Bytes) (f : Found) where
-  read_so : (o : Option Refusal) (u : Option Verb) (p : Parsed) → settled o u cdb f ≡ Readable p → Settled o u cdb f p
+  read_so : (o : Option Refusal) (u : Option Verb) (p : Parsed) → settled o u cdb f ≡ Ok p → Settled o u cdb f p
   unfolding said_by
   read_so (Some w) u p q = let z : ◌≡◌ {A = ℕ} 0 1 = cc in absurd (omega arith)
   read_so None None p q = let z : ◌≡◌ {A = ℕ} 0 1 = cc in absurd (omega arith)
@@ -49,7 +47,7 @@ module _ (cdb : Bytes) (f : Found) where
       record { passes = refl; verb = ap Some same; said = sym s ∙ ap (λ (k : Verb). said_by k cdb f) same }
 
   refused_so : (o : Option Refusal) (u : Option Verb) (w : Refusal) → (o ≡ None → (v : Verb) × (u ≡ Some v))
-      → settled o u cdb f ≡ Unreadable w → o ≡ Some w
+      → settled o u cdb f ≡ Err w → o ≡ Some w
   refused_so (Some k) u w known q = let s : k ≡ w = cc in ap Some s
   refused_so None (Some v) w known q = let z : ◌≡◌ {A = ℕ} 0 1 = cc in absurd (omega arith)
   refused_so None None w known q =
@@ -61,16 +59,16 @@ module _ (cdb : Bytes) (f : Found) where
 abbrev pub Says : Command → Parsed → Type 0
 Says c p = Settled (first_of (header c)) (verb c) c.cdb (found c) p
 
-pub says : (c : Command) (p : Parsed) → reading_of c ≡ Readable p → Says c p
+pub says : (c : Command) (p : Parsed) → reading_of c ≡ Ok p → Says c p
 unfolding reading_of
 says c p e = read_so c.cdb (found c) _ _ p e
 
-pub unreadable : (c : Command) (w : Refusal) → reading_of c ≡ Unreadable w → first_of (header c) ≡ Some w
+pub unreadable : (c : Command) (w : Refusal) → reading_of c ≡ Err w → first_of (header c) ≡ Some w
 unfolding reading_of verb
 unreadable c w e = refused_so c.cdb (found c) _ _ w (λ h. has_verb c.cdb (header_passed c h).action) e
 
 -- no row refuses
-pub read_by : (c : Command) (v : Verb) → first_of (header c) ≡ None → verb c ≡ Some v → Readable (said_by v c.cdb (found c)) ≡ reading_of c
+pub read_by : (c : Command) (v : Verb) → first_of (header c) ≡ None → verb c ≡ Some v → Ok (said_by v c.cdb (found c)) ≡ reading_of c
 unfolding reading_of
 read_by c v e h = rw (e, h)
 
@@ -87,25 +85,25 @@ sized cdb e =
     let r = or_false_parts (not (eqb (length cdb) 236) || not (eqb (byte 0 cdb) 0x7F)) _ e in
     eqb-true _ _ (not-false _ (or_false_parts (not (eqb (length cdb) 236)) _ r.0).0)
 
-pub malformed : (cdb : Bytes) → cdb_malformed cdb ≡ true → Unreadable CdbMalformed ≡ front_of cdb
+pub malformed : (cdb : Bytes) → cdb_malformed cdb ≡ true → Err CdbMalformed ≡ front_of cdb
 unfolding front_of front_rows first_of
 malformed cdb e = rw e
 
--- by the verb that was named
-module _ (cdb : Bytes) (formed : cdb_malformed cdb ≡ false) (n : Named) (e : n ≡ named (verb_of (action cdb))) where
-  pub unknown : n ≡ Unknown → Unreadable ActionUnknown ≡ front_of cdb
-  unfolding front_of front_rows first_of action_unknown
-  unknown q = go (verb_of (action cdb)) refl (sym e ∙ q)
+-- by what its service action is read as
+module _ (cdb : Bytes) (formed : cdb_malformed cdb ≡ false) (r : Result Verb Refusal) (e : r ≡ read_verb (action cdb)) where
+  pub unknown : (w : Refusal) → r ≡ Err w → (h : Reading) → h ≡ Err w → h ≡ front_of cdb
+  unfolding front_of front_rows first_of action_unknown read_verb
+  unknown w q h t = t ∙ go (verb_of (action cdb)) refl (sym e ∙ q)
     where
-      go : (o : Option Verb) → verb_of (action cdb) ≡ o → named o ≡ Unknown → Unreadable ActionUnknown ≡ front_of cdb
-      go None h r = rw (formed, h)
+      go : (o : Option Verb) → verb_of (action cdb) ≡ o → ok_or o ActionUnknown ≡ Err w → Err w ≡ front_of cdb
+      go None h r = let k : ActionUnknown ≡ w = cc in rw (formed, h, ← k)
       go (Some v) h r = let z : ◌≡◌ {A = ℕ} 0 1 = cc in absurd (omega arith)
 
-  pub known : (v : Verb) → n ≡ Known v → (p : Parsed) → p ≡ said_by v cdb nothing → Readable p ≡ front_of cdb
-  unfolding front_of front_rows first_of action_unknown
+  pub known : (v : Verb) → r ≡ Ok v → (p : Parsed) → p ≡ said_by v cdb nothing → Ok p ≡ front_of cdb
+  unfolding front_of front_rows first_of action_unknown read_verb
   known v q p s = go (verb_of (action cdb)) refl (sym e ∙ q)
     where
-      go : (o : Option Verb) → verb_of (action cdb) ≡ o → named o ≡ Known v → Readable p ≡ front_of cdb
+      go : (o : Option Verb) → verb_of (action cdb) ≡ o → ok_or o ActionUnknown ≡ Ok v → Ok p ≡ front_of cdb
       go None h r = let z : ◌≡◌ {A = ℕ} 0 1 = cc in absurd (omega arith)
       go (Some u) h r = let k : u ≡ v = cc in rw (formed, h, k, s)
 
@@ -118,7 +116,7 @@ unfolding said_by partition_of object_of start_of length_of continuation
 said_read cdb v p o s n k e1 e2 e3 e4 e5 = rw (e1, e2, e3, e4, e5)
 
 -- a CDB that was read
-module _ (cdb : Bytes) (p : Parsed) (e : front_of cdb ≡ Readable p) where
+module _ (cdb : Bytes) (p : Parsed) (e : front_of cdb ≡ Ok p) where
   fronted : Settled (first_of (front_rows cdb)) (verb_of (action cdb)) cdb nothing p
   unfolding front_of
   fronted = read_so cdb nothing _ _ p e
@@ -140,13 +138,13 @@ module _ (cdb : Bytes) (p : Parsed) (e : front_of cdb ≡ Readable p) where
 
 -- ---- the three questions, asked in order, are rows 2 to 8
 
-pub front_refused : (c : Command) (w : Refusal) → front_of c.cdb ≡ Unreadable w → Unreadable w ≡ reading_of c
+pub front_refused : (c : Command) (w : Refusal) → front_of c.cdb ≡ Err w → (h : Reading) → h ≡ Err w → h ≡ reading_of c
 unfolding front_of reading_of header
-front_refused c w e =
+front_refused c w e h t =
     let first = refused_so c.cdb nothing _ _ w (λ h. has_verb c.cdb (front_passed c.cdb h).1) e in
-    rw (ahead (front_rows c.cdb) (test OtherObject (other_object c) ∷ segment_rows c) w first)
+    t ∙ rw (ahead (front_rows c.cdb) (test OtherObject (other_object c) ∷ segment_rows c) w first)
 
-module _ (c : Command) (p : Parsed) (e : front_of c.cdb ≡ Readable p) where
+module _ (c : Command) (p : Parsed) (e : front_of c.cdb ≡ Ok p) where
   ids_are : other_than p c.on ≡ other_object c
   unfolding other_than other_object
   ids_are = rw (partition_is c.cdb p e, object_is c.cdb p e)
@@ -156,7 +154,7 @@ module _ (c : Command) (p : Parsed) (e : front_of c.cdb ≡ Readable p) where
   rows_left = behind (front_rows c.cdb) _ (fronted c.cdb p e).passes
 
   module _ (t : Bool) (is : t ≡ other_than p c.on) where
-    pub other : t ≡ true → Unreadable OtherObject ≡ reading_of c
+    pub other : t ≡ true → Err OtherObject ≡ reading_of c
     unfolding reading_of
     other h = rw (rows_left ∙ hit _ _ (sym ids_are ∙ sym is ∙ h))
 
@@ -168,11 +166,11 @@ module _ (c : Command) (p : Parsed) (e : front_of c.cdb ≡ Readable p) where
 
 -- a row that refuses, and no row that does
 module _ (c : Command) where
-  segment_refused : (w : Refusal) → first_of (segment_rows c) ≡ Some w → Unreadable w ≡ segment_of c
+  segment_refused : (w : Refusal) → first_of (segment_rows c) ≡ Some w → Err w ≡ segment_of c
   unfolding segment_of
   segment_refused w e = rw e
 
-  segment_read : (v : Verb) → first_of (segment_rows c) ≡ None → verb c ≡ Some v → Readable (said_by v c.cdb (found c)) ≡ segment_of c
+  segment_read : (v : Verb) → first_of (segment_rows c) ≡ None → verb c ≡ Some v → Ok (said_by v c.cdb (found c)) ≡ segment_of c
   unfolding segment_of
   segment_read v e h = rw (e, h)
 
@@ -191,12 +189,12 @@ module _ (c : Command) (z : continuation c.cdb ≡ 0) where
   no_row = rw (z, finds_nothing, found_nothing)
 
 -- row 5
-module _ (c : Command) (p : Parsed) (e : front_of c.cdb ≡ Readable p) where
-  pub no_segment : p.segment ≡ 0 → Readable p ≡ segment_of c
+module _ (c : Command) (p : Parsed) (e : front_of c.cdb ≡ Ok p) where
+  pub no_segment : p.segment ≡ 0 → Ok p ≡ segment_of c
   unfolding verb
   no_segment z =
       let none_left = sym (segment_is c.cdb p e) ∙ z in
-      ap Readable ((fronted c.cdb p e).said ∙ ap (said_by p.verb c.cdb) (sym (found_nothing c none_left)))
+      ap Ok ((fronted c.cdb p e).said ∙ ap (said_by p.verb c.cdb) (sym (found_nothing c none_left)))
       ∙ segment_read c p.verb (no_row c none_left) (fronted c.cdb p e).verb
 
   module _ (t : Bool)
@@ -205,12 +203,12 @@ module _ (c : Command) (p : Parsed) (e : front_of c.cdb ≡ Readable p) where
     unfolding continuation_wrong continued
     row5 = sym (rw (segment_is c.cdb p e) at is)
 
-    pub length_refused : t ≡ true → Unreadable ContinuationLength ≡ segment_of c
+    pub length_refused : t ≡ true → Err ContinuationLength ≡ segment_of c
     unfolding segment_rows
     length_refused h = segment_refused c ContinuationLength (hit _ _ (row5 ∙ h))
 
 -- a length that row 5 lets through
-pub opens : (cdb out : Bytes) (p : Parsed) → front_of cdb ≡ Readable p → (t : Bool)
+pub opens : (cdb out : Bytes) (p : Parsed) → front_of cdb ≡ Ok p → (t : Bool)
     → t ≡ (not (eqb p.segment 0) && (ltb p.segment 40 || ltb 2048 p.segment || ltb (length out) p.segment))
     → t ≡ false → (p.segment ≡ 0 → ⊥) → Opened cdb out p
 opens cdb out p e t is h n =
@@ -247,7 +245,7 @@ module _ (c : Command) (p : Parsed) (o : Opened c.cdb c.out p) where
     unfolding segment_header_wrong action
     row6 = rw has_segment (sym (rw (part_is, named) at e))
 
-    pub wrong_head : t ≡ true → Unreadable SegmentHeader ≡ segment_of c
+    pub wrong_head : t ≡ true → Err SegmentHeader ≡ segment_of c
     unfolding segment_rows
     wrong_head q = segment_refused c SegmentHeader (opened _ ∙ hit _ _ (row6 ∙ q))
 
@@ -258,9 +256,9 @@ module _ (c : Command) (p : Parsed) (o : Opened c.cdb c.out p) where
       walk_is = rw (ne_eqb _ _ (λ (z : continuation c.cdb ≡ 0). omega (arith, o.begins, size, z))) (sym (rw part_is at h))
 
       -- row 7
-      pub broken : (k : Cause) (at : ℕ) → w ≡ Err (fault k at) → Unreadable Descriptor ≡ segment_of c
+      pub broken : (f : Fault) → w ≡ Err f → (h : Reading) → h ≡ Err Descriptor → h ≡ segment_of c
       unfolding segment_rows descriptor_faulty
-      broken k at g = segment_refused c Descriptor (opened _ ∙ skip _ _ (row6 ∙ q) ∙ hit _ _ (rw (walk_is ∙ g)))
+      broken f g h t = t ∙ segment_refused c Descriptor (opened _ ∙ skip _ _ (row6 ∙ q) ∙ hit _ _ (rw (walk_is ∙ g)))
 
       module _ (f : Found) (g : w ≡ Ok f) (u : Bool) (d : u ≡ (is_some f.list && (is_clear p.verb || is_punch p.verb))) where
         found_is : found c ≡ f
@@ -280,7 +278,7 @@ module _ (c : Command) (p : Parsed) (o : Opened c.cdb c.out p) where
         unfolding list_forbidden listed
         row8 = rw (found_is, verb_is) (sym d)
 
-        pub forbidden : u ≡ true → Unreadable ListForbidden ≡ segment_of c
+        pub forbidden : u ≡ true → Err ListForbidden ≡ segment_of c
         unfolding segment_rows
         forbidden r = segment_refused c ListForbidden (opened _ ∙ skip _ _ (row6 ∙ q) ∙ skip _ _ row7 ∙ hit _ _ (row8 ∙ r))
 
@@ -297,11 +295,11 @@ module _ (c : Command) (p : Parsed) (o : Opened c.cdb c.out p) where
               found = f;
             }
 
-        pub readable : u ≡ false → Readable (with p) ≡ segment_of c
+        pub readable : u ≡ false → Ok (with p) ≡ segment_of c
         unfolding segment_rows said_by
         readable r =
-            ap (λ (k : Parsed). Readable (with k)) (fronted c.cdb p o.front).said
-            ∙ ap (λ (k : Found). Readable (said_by p.verb c.cdb k)) (sym found_is)
+            ap (λ (k : Parsed). Ok (with k)) (fronted c.cdb p o.front).said
+            ∙ ap (λ (k : Found). Ok (said_by p.verb c.cdb k)) (sym found_is)
             ∙ segment_read c p.verb (opened _ ∙ skip _ _ (row6 ∙ q) ∙ skip _ _ row7 ∙ skip _ _ (row8 ∙ r) ∙ none_left) verb_is
 
 -- the part of Data-Out that is the segment of a command that was read

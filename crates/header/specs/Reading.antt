@@ -1,5 +1,5 @@
 -- What the reading of a command answers, by the book's rows 2 to 8: as three questions, and as one.
-use Rattle.std.specs.Prelude.{Option, None, Some, ◌≤◌, ◌≡◌, Bool, ◌||◌, not, eqb, length}
+use Rattle.std.specs.Prelude.{Result, Ok, Err, Option, None, Some, ◌≤◌, ◌≡◌, Bool, ◌||◌, not, eqb, length}
 use Rattle.rules.specs.declared.Record.{Record}
 use Rattle.rules.specs.declared.Refusal.{Refusal}
 use Rattle.rules.specs.declared.Refusal.TheVariants.{ActionUnknown}
@@ -11,15 +11,11 @@ use Rattle.rules.specs.Command.{Command, action, partition_of, object_of, start_
 use Rattle.rules.specs.Reading.{found}
 use Rattle.rules.specs.Header.{front_rows, segment_rows, header}
 use Rattle.rules.specs.Segment.{nothing}
-use Rattle.header.specs.declared.Named.{Named}
-use Rattle.header.specs.declared.Named.TheVariants.{Known, Unknown}
 use Rattle.header.specs.declared.Parsed.{Parsed}
-use Rattle.header.specs.declared.Reading.{Reading}
-use Rattle.header.specs.declared.Reading.TheVariants.{Unreadable, Readable}
 
-abbrev pub named : Option Verb → Named
-named None = Unknown
-named (Some v) = Known v
+-- the first row that refuses a command, of those that were asked, or what the command says
+abbrev pub Reading : Type 0
+Reading = Result Parsed Refusal
 
 abbrev pub command : (cdb out : Bytes) → Record → Command
 command cdb out r = record { cdb = cdb; out = out; on = r }
@@ -39,9 +35,9 @@ said_by v cdb f =
 
 -- Row 3 refuses a command without a verb, so the second line is never reached.
 abbrev pub settled : Option Refusal → Option Verb → (cdb : Bytes) → Found → Reading
-settled (Some w) v cdb f = Unreadable w
-settled None None cdb f = Unreadable ActionUnknown
-settled None (Some v) cdb f = Readable (said_by v cdb f)
+settled (Some w) v cdb f = Err w
+settled None None cdb f = Err ActionUnknown
+settled None (Some v) cdb f = Ok (said_by v cdb f)
 
 -- rows 2 and 3, of the CDB alone, with nothing found yet
 unfoldable pub front_of : (cdb : Bytes) → Reading
@@ -61,7 +57,7 @@ reading_of c = settled (first_of (header c)) (verb c) c.cdb (found c)
 
 -- a command with a segment that row 5 lets through, and what its CDB says
 pub record Opened (cdb out : Bytes) (p : Parsed) : Type 0 where
-  pub front : front_of cdb ≡ Readable p
+  pub front : front_of cdb ≡ Ok p
   pub begins : 40 ≤ p.segment
   pub few : p.segment ≤ 2048
   pub lent : p.segment ≤ length out

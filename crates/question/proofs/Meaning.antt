@@ -1,5 +1,5 @@
 -- What the search finds is what the book says of the command that was read.
-use Rattle.std.specs.Prelude.{Option, None, Some}
+use Rattle.std.specs.Prelude.{Ok, Err, Option, None, Some}
 use Rattle.rules.specs.declared.Part.{Part}
 use Prim.Native.Nat.{ℕ, zero, suc, ◌+◌, ◌-◌, ◌*◌, ◌/◌, ◌≤◌}
 use mathlib.Core.Path.{◌≡◌, refl, ap, sym, ◌∙◌}
@@ -17,8 +17,6 @@ use Rattle.rules.specs.Reading.{Held, found, solo, extension, extensions_of, cap
 use Rattle.rules.specs.Header.{header, readable}
 use Rattle.rules.specs.Admission.{admits, admitting, admitting_for, question}
 use Rattle.header.specs.declared.Parsed.{Parsed}
-use Rattle.header.specs.declared.Reading.{Reading}
-use Rattle.header.specs.declared.Reading.TheVariants.{Unreadable, Readable}
 use Rattle.header.specs.Reading.{said_by, reading_of}
 use Rattle.header.proofs.Rows.{Says, says, unreadable}
 use Rattle.segment.specs.Lying.{ExtensionAt}
@@ -73,7 +71,7 @@ unfolding question readable
 refuses_question c w g e = rw e
 
 -- ---- over the answer of the reading, and the part of Data-Out that the code takes for the segment
-module _ (c : Command) (p : Parsed) (e : reading_of c ≡ Readable p) where
+module _ (c : Command) (p : Parsed) (e : reading_of c ≡ Ok p) where
   pub part_question : (g : Range) (w : Place) → w ≡ first_in c.cdb (take (p.segment - 0) c.out) p c.on g → w ≡ place_of (question c g)
   part_question g w q = q ∙ ap (λ (s : Bytes). first_in c.cdb s p c.on g) (part_is c p e) ∙ sym (says_question c p (says c p e) g)
 
@@ -100,8 +98,8 @@ module _ (c : Command) (g : Range) where
   asked_of w e n = go (reading_of c) refl
     where
       go : (r : Reading) → reading_of c ≡ r → (p : Parsed) × Says c p
-      go (Unreadable u) h = absurd (n (sym e ∙ sym (refuses_question c u g (unreadable c u h))))
-      go (Readable p) h = (p, says c p h)
+      go (Err u) h = absurd (n (sym e ∙ sym (refuses_question c u g (unreadable c u h))))
+      go (Ok p) h = (p, says c p h)
 
   pub in_cdb_sized : place_of (question c g) ≡ InCdb → length c.cdb ≡ 236
   in_cdb_sized e =

@@ -1,7 +1,8 @@
 -- Rows 2 to 8 of document 01's table of numbers: whether a command can be read, of CDB, Data-Out and record alone.
 -- The engine, the admission question and demand 3 share them. They are three questions: of the CDB alone (2 and 3),
 -- whose object it names (4), and of its segment (5 to 8).
-use Rattle.std.specs.Prelude.{is_err, is_some, Bool, ◌&&◌, ◌||◌, not, List, [], ◌∷◌, ◌++◌, length, eqb, ltb}
+use Rattle.std.specs.Prelude.{◌≡◌, is_err, is_some, Bool, ◌&&◌, ◌||◌, not, List, [], ◌∷◌, ◌++◌, length, eqb, ltb}
+use Rattle.rules.specs.declared.Fault.{Fault}
 use Rattle.rules.specs.declared.Verb.{Verb}
 use Rattle.rules.specs.declared.Refusal.{Refusal}
 use Rattle.rules.specs.declared.Refusal.TheVariants.{CdbMalformed, ActionUnknown, OtherObject, ContinuationLength, SegmentHeader, Descriptor, ListForbidden}
@@ -42,6 +43,10 @@ segment_header_wrong c = continued c && (not (eqb (byte 0 (segment c)) 0x01) || 
 -- 7: the walk over the descriptors is broken off
 unfoldable pub descriptor_faulty : Command → Bool
 descriptor_faulty c = is_err (walked c)
+
+-- whatever its fault is
+abbrev pub IsRefused : Fault → Refusal → Type 0
+IsRefused f w = w ≡ Descriptor
 
 -- 8: a list on CLEAR or PUNCH
 unfoldable pub list_forbidden : Command → Bool

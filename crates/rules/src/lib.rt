@@ -154,3 +154,14 @@ pub struct Fault {
     pub cause: Cause,
     pub at: usize,
 }
+
+// Row 7 refuses a segment with a fault, whichever it is.
+impl From<Fault> for Refusal {
+    ghost use Rattle.rules.specs.Header.{IsRefused};
+
+    ghost from_gives = { IsRefused };
+
+    fn from(_fault: Fault) -> Refusal {
+        Refusal::Descriptor
+    }
+}

@@ -1,7 +1,6 @@
-use mathlib.Core.Path.{ap, sym, ◌∙◌}
+use Rattle.std.proofs.Common.{rules, ap, sym, ◌∙◌}
 use native.Mathlib.Omega.{arith}
-use Rattle.rules.specs.Command.{action, verb_of}
-use Rattle.header.specs.Reading.{named}
+use Rattle.rules.specs.Command.{action, read_verb}
 use Rattle.header.proofs.Rows.{sized, malformed, unknown, known}
 use Rattle.header.proofs.read_front.Goals as goal
 
@@ -17,14 +16,14 @@ pub said_by-requires : goal.said_by-requires
 said_by-requires c =
     sized c.args.cdb.now (sym c.is_malformed.ensures ∙ c.if-is_malformed.false)
 
-pub returns-in-Unknown : goal.returns-in-Unknown
+pub returns-in_err-verb : goal.returns-in_err-verb
 unfolding action
-returns-in-Unknown c =
+returns-in_err-verb c =
     unknown _ (sym c.is_malformed.ensures ∙ c.if-is_malformed.false) _
-    (c.verb_named-named.ensures ∙ ap (λ a. named (verb_of a)) c.get16.ensures) c.in-Unknown.is
+    (c.try_from.ensures ∙ ap read_verb c.get16.ensures) _ c.in_err-verb.was _ (search rules)
 
-pub returns-in-Known : goal.returns-in-Known
+pub returns : goal.returns
 unfolding action
-returns-in-Known c =
+returns c =
     known _ (sym c.is_malformed.ensures ∙ c.if-is_malformed.false) _
-    (c.verb_named-named.ensures ∙ ap (λ a. named (verb_of a)) c.get16.ensures) _ c.in-Known.is _ c.said_by.ensures
+    (c.try_from.ensures ∙ ap read_verb c.get16.ensures) _ c.in_ok-verb.was _ c.said_by.ensures
