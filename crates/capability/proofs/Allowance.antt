@@ -4,9 +4,9 @@ use mathlib.Core.Path.{◌≡◌, refl, ap, sym, ◌∙◌}
 use mathlib.Core.Bool.{Bool, true, false}
 use native.Mathlib.Omega.{arith}
 use lib.Dec.{leb}
-use borrow.Author.Tests.{eq-eqb, ne_eqb, le-leb, lt-leb}
+use borrow.Author.Tests.{le-leb, lt-leb}
 use Rattle.rules.specs.declared.Range.{Range}
-use Rattle.rules.specs.Bytes.{Bytes, field}
+use Rattle.rules.specs.Bytes.{Bytes}
 use Rattle.rules.specs.Capability.{bound, inside}
 use Rattle.capability.specs.Allowance.{allowance, inside_of}
 use Rattle.rules.proofs.Booleans.{same_test}
@@ -25,26 +25,7 @@ module _ (start size from allowed : ℕ) (h : from ≤ start) where
   pub rest_ends : start - from ≤ allowed → leb size (allowed - (start - from)) ≡ leb (start + size) (from + allowed)
   rest_ends p = same_test _ _ _ _ (λ (l : size ≤ allowed - (start - from)). omega arith) (λ (l : start + size ≤ from + allowed). omega arith)
 
--- ---- the range
-module _ (g w : Range) where
-  pub starts_before : g.start < w.start → false ≡ inside_of g w
-  unfolding inside_of
-  starts_before h = rw (lt-leb _ _ h)
-
-  pub everything : w.start ≤ g.start → w.size ≡ 0xFFFF_FFFF_FFFF_FFFF → (t : Bool) → t ≡ leb (g.start + g.size) (2 ^ 64) → t ≡ inside_of g w
-  unfolding inside_of
-  everything h e t q = rw (le-leb _ _ h, eq-eqb _ _ e) q
-
-  pub some_of_it : w.start ≤ g.start → (w.size ≡ 0xFFFF_FFFF_FFFF_FFFF → ⊥) → (t : Bool)
-      → t ≡ leb (g.start + g.size) (w.start + w.size) → t ≡ inside_of g w
-  unfolding inside_of
-  some_of_it h n t q = rw (le-leb _ _ h, ne_eqb _ _ n) q
-
 module _ (k : Bytes) where
-  pub allowance_is : (size start : ℕ) → size ≡ field 88 8 k → start ≡ field 96 8 k → record { start = start; size = size } ≡ allowance k
-  unfolding allowance
-  allowance_is size start el es = rw (el, es)
-
   -- inside a capability is inside what it allows
   pub inside_is : (g : Range) → inside_of g (allowance k) ≡ inside g k
   unfolding inside inside_of bound allowance
@@ -52,6 +33,3 @@ module _ (k : Bytes) where
 
   pub inside_told : (g w : Range) → w ≡ allowance k → (t : Bool) → t ≡ inside_of g w → t ≡ inside g k
   inside_told g w e t q = q ∙ ap (λ (x : Range). inside_of g x) e ∙ inside_is g
-
--- what `capability::is_allowed` meets its contract by
-pub ruleset allowing = (starts_before, everything, some_of_it)

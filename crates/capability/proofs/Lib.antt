@@ -1,4 +1,3 @@
-pub mod Terms
 pub mod Allowance
 pub mod Pieces
 pub mod Meaning

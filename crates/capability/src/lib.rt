@@ -21,6 +21,7 @@ pub struct Sought {
     pub epoch: u16,
 }
 
+#[tactic(auto, unfolding(rules::specs::Capability::permits))]
 fn permits_verb(k: &[u8], verb: Verb) -> bool
     requires { 104 ≤ length k.now }
     ensures { result ≡ permits verb k.now }
@@ -28,87 +29,60 @@ fn permits_verb(k: &[u8], verb: Verb) -> bool
     let permissions = k[49];
     match verb {
         Verb::Read => permissions / 128 % 2 == 1,
-        Verb::Write => permissions / 64 % 2 == 1,
-        Verb::Clear => permissions / 64 % 2 == 1,
-        Verb::Punch => permissions / 64 % 2 == 1,
+        Verb::Write | Verb::Clear | Verb::Punch => permissions / 64 % 2 == 1,
     }
 }
 
+#[tactic(auto, unfolding(rules::specs::Capability::for_user_object))]
 fn is_for_user_object(k: &[u8]) -> bool
     requires { 104 ≤ length k.now }
     ensures { result ≡ for_user_object k.now }
 {
-    if k[48] != 0x80 {
-        return false;
-    }
-    k[55] / 16 == 1
+    k[48] == 0x80 && k[55] / 16 == 1
 }
 
-#[tactic(auto, using(crate::proofs::Terms::naming))]
+#[tactic(auto, unfolding(rules::specs::Capability::names))]
 fn names_object(k: &[u8], partition: u64, object: u64) -> bool
     requires { 104 ≤ length k.now }
     ensures { result ≡ names partition object k.now }
 {
     let allowed_partition = wire::get64(k, 72);
     let allowed_object = wire::get64(k, 80);
-    if allowed_partition == 0 {
-        return false;
-    }
-    if allowed_object == 0 {
-        return false;
-    }
-    if allowed_partition != partition {
-        return false;
-    }
-    allowed_object == object
+    allowed_partition != 0
+        && allowed_object != 0
+        && allowed_partition == partition
+        && allowed_object == object
 }
 
-#[tactic(auto, using(crate::proofs::Terms::tagging))]
+#[tactic(auto, unfolding(rules::specs::Capability::tagged))]
 fn has_tag(k: &[u8], by: Sought) -> bool
     requires { 104 ≤ length k.now }
     ensures { result ≡ tagged (holder by) k.now }
 {
     let tag = wire::get32(k, 60);
-    if tag == 0 {
-        return true;
-    }
-    tag == by.tag
+    tag == 0 || tag == by.tag
 }
 
-#[tactic(auto, using(crate::proofs::Terms::booting))]
+#[tactic(auto, unfolding(rules::specs::Capability::current))]
 fn is_current(k: &[u8], by: Sought) -> bool
     requires { 104 ≤ length k.now }
     ensures { result ≡ current (holder by) k.now }
 {
     let epoch = wire::get16(k, 64);
-    if epoch == 0 {
-        return true;
-    }
-    if by.epoch == 0 {
-        return true;
-    }
-    epoch == by.epoch
+    epoch == 0 || by.epoch == 0 || epoch == by.epoch
 }
 
 // Whether a capability matches what is sought.
+#[tactic(auto, unfolding(crate::specs::Terms::meets, rules::specs::Capability::matches))]
 pub fn is_match(k: &[u8], by: Sought) -> bool
     requires { 104 ≤ length k.now }
     ensures { result ≡ meets by k.now }
 {
-    if !is_for_user_object(k) {
-        return false;
-    }
-    let verb = by.verb;
-    if !permits_verb(k, verb) {
-        return false;
-    }
-    if !names_object(k, by.partition, by.object) {
-        return false;
-    }
-    if !has_tag(k, by) {
-        return false;
-    }
-    is_current(k, by)
+    is_for_user_object(k)
+        && permits_verb(k, by.verb)
+        && names_object(k, by.partition, by.object)
+        && has_tag(k, by)
+        && is_current(k, by)
 }
 
 // ---- the range that it allows
@@ -117,10 +91,7 @@ pub fn is_match(k: &[u8], by: Sought) -> bool
 fn ends_in_range(start: u64, size: u64) -> bool
     ensures { result ≡ leb (start + size) (2 ^ 64) }
 {
-    if size == 0 {
-        return true;
-    }
-    size - 1 <= 0xFFFF_FFFF_FFFF_FFFF - start
+    size == 0 || size - 1 <= u64::MAX - start
 }
 
 // Whether a range that starts at or above `from` ends at or below `from + allowed`.
@@ -129,40 +100,37 @@ fn ends_inside(start: u64, size: u64, from: u64, allowed: u64) -> bool
     ensures { result ≡ leb (start + size) (from + allowed) }
 {
     let skipped = start - from;
-    if allowed < skipped {
-        return false;
-    }
-    size <= allowed - skipped
+    skipped <= allowed && size <= allowed - skipped
 }
 
 // The start and the length that a capability allows.
+#[tactic(auto, unfolding(crate::specs::Allowance::allowance))]
 pub fn allowance_of(k: &[u8]) -> Range
     requires { 104 ≤ length k.now }
     ensures { result ≡ allowance k.now }
 {
-    let size = wire::get64(k, 88);
-    let start = wire::get64(k, 96);
     Range {
-        start: start,
-        size: size,
+        start: wire::get64(k, 96),
+        size: wire::get64(k, 88),
     }
 }
 
 // Whether a range lies inside an allowance. Ends are compared by what is left, so that no sum can wrap.
-#[tactic(auto, using(crate::proofs::Allowance::allowing))]
+#[tactic(auto, unfolding(crate::specs::Allowance::inside_of))]
 pub fn is_allowed(g: Range, w: Range) -> bool
     ensures { result ≡ inside_of g w }
 {
     if g.start < w.start {
         return false;
     }
-    if w.size == 0xFFFF_FFFF_FFFF_FFFF {
+    if w.size == u64::MAX {
         return ends_in_range(g.start, g.size);
     }
     ends_inside(g.start, g.size, w.start, w.size)
 }
 
 // Whether a range lies inside a capability.
+#[tactic(auto, using(crate::proofs::Allowance::inside_told))]
 pub fn is_inside(k: &[u8], g: Range) -> bool
     requires { 104 ≤ length k.now }
     ensures { result ≡ inside g k.now }
@@ -176,9 +144,8 @@ pub fn is_inside(k: &[u8], g: Range) -> bool
 pub fn sought_by(said: Parsed, on: Record) -> Sought
     ensures { result ≡ sought_by said on }
 {
-    let verb = said.verb;
     Sought {
-        verb: verb,
+        verb: said.verb,
         partition: said.partition,
         object: said.object,
         tag: on.tag,
