@@ -4,3 +4,5 @@ pub mod Standing
 pub mod Walking
 pub mod Entries
 pub mod Lying
+pub mod Left
+pub mod Runs

@@ -1,3 +1,4 @@
 pub mod Verdict
 pub mod Step
 pub mod Lying
+pub mod Left

@@ -3,12 +3,14 @@
 
 #![tactic(auto)]
 
-ghost use Rattle.std.specs.Prelude.{◌≡◌, ◌&&◌, not, ◌+◌, ◌≤◌, ◌%◌, eqb, ◌==◌, length, drop};
+ghost use Rattle.std.specs.Prelude.{◌≡◌, ◌&&◌, not, ◌+◌, ◌≤◌, ◌/◌, ◌%◌, eqb, ◌==◌, length, drop};
 ghost use Rattle.std.specs.List.{list_all};
+ghost use Rattle.std.specs.Iterator.{YieldsFirst, item_count};
 ghost use Rattle.rules.specs.Tests.{first_of};
-ghost use Rattle.rules.specs.Segment.{size_at, data_at, faults, here, entry_at, walk};
+ghost use Rattle.rules.specs.Segment.{size_at, data_at, faults, here, entry_at, entries_from, walk};
 ghost use Rattle.segment.specs.Verdict.{judged};
 ghost use Rattle.segment.specs.Step.{start, stepped};
+ghost use Rattle.segment.specs.Left.{entries_left};
 
 use rules::{Cause, Fault, Found, Here, Part, Range};
 use std::ops::ControlFlow;
@@ -154,5 +156,39 @@ pub fn walk_over(s: &[u8]) -> Result<Found, Fault>
             ControlFlow::Continue(next) => position = next,
             ControlFlow::Break(walk) => return walk,
         }
+    }
+}
+
+// ---- a list, entry by entry
+
+// A list's entries in their order, each read where it stands.
+#[derive(Clone, Copy)]
+pub struct ListEntries<'a> {
+    rest: &'a [u8],
+}
+
+impl<'a> Iterator for ListEntries<'a> {
+    type Item = Range;
+
+    ghost next_gives = { YieldsFirst entries_left };
+
+    ghost remaining = { item_count entries_left };
+
+    #[tactic(auto, using(crate::proofs::Left::leaving))]
+    fn next(&mut self) -> Option<Range> {
+        let (entry, rest) = self.rest.split_first_chunk::<16>()?;
+        self.rest = rest;
+        Some(entry_at(entry, 0))
+    }
+}
+
+// The entries whose bytes are a part of the segment.
+#[tactic(auto, using(crate::proofs::Left::left_in))]
+pub fn entries_in<'a>(s: &'a [u8], part: Part) -> ListEntries<'a>
+    requires { part.at + part.size ≤ length s.now }
+    ensures { entries_left result ≡ entries_from (part.size / 16) s.now part.at }
+{
+    ListEntries {
+        rest: &s[part.at..part.at + part.size],
     }
 }
