@@ -1,6 +1,3 @@
-pub mod Sums
 pub mod Meetings
-pub mod Loading
-pub mod Entrywise
-pub mod Faults
+pub mod Sums
 pub mod Reaches

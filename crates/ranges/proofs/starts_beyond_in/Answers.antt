@@ -1,15 +1,9 @@
-use Rattle.ranges.proofs.Entrywise.{starting_hit, starting_on, starting_none}
+use Rattle.std.proofs.Common.{rules}
+use borrow.Author.Tests.{tests}
+use Rattle.segment.proofs.Runs.{any_left}
+use Rattle.ranges.specs.Asked.{beyond_in}
 use Rattle.ranges.proofs.starts_beyond_in.Goals as goal
 
-pub returns-then-logical-g : goal.returns-then-logical-g
-returns-then-logical-g c =
-    starting_hit _ _ _ _ _ _ c.loop-left.invariant c.loop-left-test.true _
-    c.entry_at-g.ensures c.if-logical-g.true
-
-pub loop-left-preserved : goal.loop-left-preserved
-loop-left-preserved c =
-    starting_on _ _ _ _ _ _ c.loop-left.invariant c.loop-left-test.true _
-    c.entry_at-g.ensures c.if-logical-g.false
-
 pub returns : goal.returns
-returns c = starting_none _ _ _ _ _ _ c.loop-left.invariant c.loop-left-test.false
+unfolding beyond_in
+returns c = any_left _ c.entries_in.ensures _ _ _ (λ x b q k. search (rules, tests)) c.any.ensures.ran

@@ -1,10 +1,6 @@
--- `ranges::sum_of` meets its contract.
-use Prim.Native.Nat.{◌-◌}
-use Rattle.ranges.proofs.Sums.{Added}
+use Rattle.std.proofs.Common.{◌≡◌, ◌<◌, ◌+◌, ◌^◌, take, drop}
+use Rattle.rules.proofs.Paired.{sum}
 use Rattle.ranges.proofs.sum_of.Given as goal
 
-abbrev pub invariant-loop-i : goal.invariant-loop-i
-invariant-loop-i l = Added l.lengths l.n l.sum l.i
-
-abbrev pub decreases-loop-i : goal.decreases-loop-i
-decreases-loop-i l = l.n - l.i
+abbrev pub invariant-loop-more : goal.invariant-loop-more
+invariant-loop-more l = (l.sum < 2 ^ 64) × (l.sum + sum (drop l.more-index (take l.n l.lengths)) ≡ sum (take l.n l.lengths))
