@@ -14,7 +14,7 @@ ghost use Rattle.admission.specs.Allowed.{pieces_from, pieces_in, Noted, inside_
 
 use capability::Sought;
 use header::Parsed;
-use rules::{Part, Range, Record, Spot};
+use rules::{Part, Range, Record};
 
 // What a capability allows, noted behind the n that are there if it matches. So each is matched once for all ranges of a list.
 fn note(k: &[u8], by: Sought, starts: &mut [u64], sizes: &mut [u64], n: usize) -> usize
@@ -74,8 +74,8 @@ fn note_all(
     let found = said.found;
     let extension = found.extension;
     match extension {
-        Spot::Absent => own,
-        Spot::At(part) => note_extension(segment, part, by, starts, sizes, own),
+        None => own,
+        Some(part) => note_extension(segment, part, by, starts, sizes, own),
     }
 }
 
@@ -133,7 +133,7 @@ fn is_let_in(cdb: &[u8], segment: &[u8], said: Parsed, on: Record) -> bool
     let found = said.found;
     let list = found.list;
     match list {
-        Spot::Absent => lies_inside(
+        None => lies_inside(
             &starts,
             &sizes,
             n,
@@ -142,7 +142,7 @@ fn is_let_in(cdb: &[u8], segment: &[u8], said: Parsed, on: Record) -> bool
                 size: said.size,
             },
         ),
-        Spot::At(part) => all_inside(segment, part, &starts, &sizes, n),
+        Some(part) => all_inside(segment, part, &starts, &sizes, n),
     }
 }
 

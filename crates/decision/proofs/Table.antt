@@ -1,5 +1,5 @@
 -- The table of rows over a command that was read: each row's test by what was read, and the decision from the first that holds.
-use Rattle.std.specs.Prelude.{Err, is_some, Option, None, Some}
+use Rattle.std.specs.Prelude.{Err, is_some, Option, None, Some, Ok}
 use Rattle.rules.specs.declared.Part.{Part}
 use Prim.Native.Nat.{◌-◌, ◌≤◌, ◌<◌}
 use mathlib.Core.Path.{◌≡◌, refl, ap, sym, ◌∙◌}
@@ -24,28 +24,26 @@ use Rattle.rules.specs.Admission.{admitted}
 use Rattle.rules.specs.Rows.{Room, object_unfit, list_with_start, list_fault, not_admitted, starts_beyond, buffer_short, raised, no_room, rows, refusal}
 use Rattle.rules.proofs.First.{hit, skip, none_left, ahead, behind}
 use Rattle.ranges.specs.Asked.{fault_in, beyond_in}
-use Rattle.ranges.specs.declared.Reach.TheVariants.{Within, Beyond}
 use Rattle.header.specs.declared.Parsed.{Parsed}
 use Rattle.header.specs.Reading.{said_by, reading_of}
 use Rattle.segment.specs.Lying.{ListAt}
 use Rattle.segment.proofs.Lying.{list_found}
 use Rattle.header.specs.Ranges.{ranges_at, ranges_in}
 use Rattle.header.proofs.Rows.{Says, says, says_segment, unreadable}
-use Rattle.decision.specs.declared.Decision.{Decision}
-use Rattle.decision.specs.declared.Decision.TheVariants.{Refuse}
-use Rattle.decision.specs.Decisions.{fault_at, room_for, reads, writes, clears, punches, writes_to, clears_to, decided, decision_of, Open, LetIn}
+use Rattle.decision.specs.declared.Action.{Action}
+use Rattle.decision.specs.Decisions.{Decision, fault_at, room_for, reads, writes, clears, punches, writes_to, clears_to, decided, decision_of, Open, LetIn}
 
 -- a row that refuses
-pub refuses : (c : Command) (m : Room) (w : Refusal) → refusal c m ≡ Some w → Refuse w ≡ decision_of c m
+pub refuses : (c : Command) (m : Room) (w : Refusal) → refusal c m ≡ Some w → Err w ≡ decision_of c m
 unfolding decision_of
 refuses c m w e = rw e
 
 -- ---- row 1, and rows 2 to 8
-pub slice_over : (c : Command) (m : Room) → 16777216 < m.slice → Refuse ObjectUnfit ≡ decision_of c m
+pub slice_over : (c : Command) (m : Room) → 16777216 < m.slice → Err ObjectUnfit ≡ decision_of c m
 unfolding refusal rows object_unfit
 slice_over c m h = refuses c m ObjectUnfit (hit _ _ (rw (lt-ltb _ _ h)))
 
-pub length_over : (c : Command) (m : Room) → m.slice < c.on.length → Refuse ObjectUnfit ≡ decision_of c m
+pub length_over : (c : Command) (m : Room) → m.slice < c.on.length → Err ObjectUnfit ≡ decision_of c m
 unfolding refusal rows object_unfit
 length_over c m h = refuses c m ObjectUnfit (hit _ _ (rw (lt-ltb m.slice c.on.length h, or-true)))
 
@@ -53,9 +51,9 @@ pub object_fits : (c : Command) (m : Room) → m.slice ≤ 16777216 → c.on.len
 unfolding object_unfit
 object_fits c m h k = rw (le-ltb _ _ h, le-ltb _ _ k)
 
-pub not_readable : (c : Command) (m : Room) (w : Refusal) → object_unfit c m ≡ false → reading_of c ≡ Err w → Refuse w ≡ decision_of c m
+pub not_readable : (c : Command) (m : Room) (w : Refusal) → object_unfit c m ≡ false → reading_of c ≡ Err w → (d : Decision) → d ≡ Err w → d ≡ decision_of c m
 unfolding refusal rows
-not_readable c m w o e = refuses c m w (skip _ _ o ∙ ahead (header c) _ w (unreadable c w e))
+not_readable c m w o e d t = t ∙ refuses c m w (skip _ _ o ∙ ahead (header c) _ w (unreadable c w e))
 
 -- ---- a command that was read
 module _ (c : Command) (m : Room) (p : Parsed) (o : Open c m p) where
@@ -114,7 +112,7 @@ module _ (c : Command) (m : Room) (p : Parsed) (o : Open c m p) where
   row9 = rw (found_is, start_is)
 
   module _ (b : Bool) (e : b ≡ (is_some p.found.list && not (eqb p.start 0))) where
-    pub start_refused : b ≡ true → Refuse ListWithStart ≡ decision_of c m
+    pub start_refused : b ≡ true → Err ListWithStart ≡ decision_of c m
     unfolding refusal rows
     start_refused h = refuses c m ListWithStart (left _ ∙ hit _ _ (row9 ∙ sym e ∙ h))
 
@@ -138,7 +136,7 @@ module _ (c : Command) (m : Room) (p : Parsed) (o : Open c m p) where
     fault_is : list_fault c ≡ t
     fault_is = row10 ∙ sym (e ∙ ap (λ (s : Bytes). fault_at p.found.list s p) part_is)
 
-    pub list_refused : t ≡ true → Refuse ListFault ≡ decision_of c m
+    pub list_refused : t ≡ true → Err ListFault ≡ decision_of c m
     unfolding refusal rows
     list_refused h = refuses c m ListFault (left _ ∙ skip _ _ starts ∙ hit _ _ (fault_is ∙ h))
 
@@ -148,7 +146,7 @@ module _ (c : Command) (m : Room) (p : Parsed) (o : Open c m p) where
       unfolding not_admitted
       row11 = rw (said.verb, f)
 
-      pub not_let_in : a ≡ false → Refuse NotAdmitted ≡ decision_of c m
+      pub not_let_in : a ≡ false → Err NotAdmitted ≡ decision_of c m
       unfolding refusal rows
       not_let_in h = refuses c m NotAdmitted (left _ ∙ skip _ _ starts ∙ skip _ _ (fault_is ∙ sound) ∙ hit _ _ (row11 ∙ ap not h))
 
@@ -206,15 +204,15 @@ module _ (c : Command) (m : Room) (p : Parsed) (l : LetIn c m p) where
   unfolding refusal rows
   passes a b d = tail _ ∙ skip _ _ a ∙ skip _ _ b ∙ skip _ _ d ∙ none_left
 
-  beyond : starts_beyond c ≡ true → Refuse StartsBeyond ≡ decision_of c m
+  beyond : starts_beyond c ≡ true → Err StartsBeyond ≡ decision_of c m
   unfolding refusal rows
   beyond a = refuses c m StartsBeyond (tail _ ∙ hit _ _ a)
 
-  short : starts_beyond c ≡ false → buffer_short c m ≡ true → Refuse BufferShort ≡ decision_of c m
+  short : starts_beyond c ≡ false → buffer_short c m ≡ true → Err BufferShort ≡ decision_of c m
   unfolding refusal rows
   short a b = refuses c m BufferShort (tail _ ∙ skip _ _ a ∙ hit _ _ b)
 
-  full : starts_beyond c ≡ false → buffer_short c m ≡ false → no_room c m ≡ true → Refuse NoRoom ≡ decision_of c m
+  full : starts_beyond c ≡ false → buffer_short c m ≡ false → no_room c m ≡ true → Err NoRoom ≡ decision_of c m
   unfolding refusal rows
   full a b d = refuses c m NoRoom (tail _ ∙ skip _ _ a ∙ skip _ _ b ∙ hit _ _ d)
 
@@ -223,28 +221,28 @@ module _ (c : Command) (m : Room) (p : Parsed) (l : LetIn c m p) where
   read_decided v = go (beyond_in (ranges_in (segment c) p) c.on.length) refl (ltb m.input p.size) refl
     where
       go : (b : Bool) → beyond_in (ranges_in (segment c) p) c.on.length ≡ b → (d : Bool) → ltb m.input p.size ≡ d
-          → cond b (Refuse StartsBeyond) (cond d (Refuse BufferShort) (Decision.Read p)) ≡ decision_of c m
+          → cond b (Err StartsBeyond) (cond d (Err BufferShort) (Ok (Action.Read p))) ≡ decision_of c m
       go true e d f = beyond (row12 ∙ rw (e, v))
       go false e true f = short (row12 ∙ rw (e, v)) (row13 ∙ rw (f, v))
       go false e false f =
-          ap Decision.Read (sym said_is ∙ ap (λ (u : Verb). said_by u c.cdb (found c)) v)
+          ap (λ (q : Parsed). Ok (Action.Read q)) (sym said_is ∙ ap (λ (u : Verb). said_by u c.cdb (found c)) v)
           ∙ (rw v at (does (passes (row12 ∙ rw (e, v)) (row13 ∙ rw (f, v)) (row14 ∙ rw v))))
 
   punch_decided : p.verb ≡ Punch → punches (segment c) p c.on.length ≡ decision_of c m
   unfolding punches
   punch_decided v = go (beyond_in (ranges_in (segment c) p) c.on.length) refl
     where
-      go : (b : Bool) → beyond_in (ranges_in (segment c) p) c.on.length ≡ b → cond b (Refuse StartsBeyond) (Decision.Punch p) ≡ decision_of c m
+      go : (b : Bool) → beyond_in (ranges_in (segment c) p) c.on.length ≡ b → cond b (Err StartsBeyond) (Ok (Action.Punch p)) ≡ decision_of c m
       go true e = beyond (row12 ∙ rw (e, v))
       go false e =
-          ap Decision.Punch (sym said_is ∙ ap (λ (u : Verb). said_by u c.cdb (found c)) v)
+          ap (λ (q : Parsed). Ok (Action.Punch q)) (sym said_is ∙ ap (λ (u : Verb). said_by u c.cdb (found c)) v)
           ∙ (rw v at (does (passes (row12 ∙ rw (e, v)) (row13 ∙ rw v) (row14 ∙ rw v))))
 
   -- where the length is raised, and where there is no room
   abbrev over : Bool
   over = ltb c.on.length (raised c) && (ltb c.on.maximum (raised c) || ltb m.slice (raised c))
 
-  room_is : room_for c.on.length c.on.maximum m.slice (reach c.on.length (ranges_in (segment c) p)) ≡ cond over Beyond (Within (raised c))
+  room_is : room_for c.on.length c.on.maximum m.slice (reach c.on.length (ranges_in (segment c) p)) ≡ cond over None (Some (raised c))
   unfolding room_for
   room_is = rw (← raised_is)
 
@@ -260,11 +258,11 @@ module _ (c : Command) (m : Room) (p : Parsed) (l : LetIn c m p) where
       starts = row12 ∙ rw v
 
       go : (d : Bool) → ltb (length c.out - p.segment) p.size ≡ d → (b : Bool) → over ≡ b
-          → cond d (Refuse BufferShort) (writes_to p (cond b Beyond (Within (raised c)))) ≡ decision_of c m
+          → cond d (Err BufferShort) (writes_to p (cond b None (Some (raised c)))) ≡ decision_of c m
       go true f b e = short starts (row13 ∙ rw (f, v))
       go false f true e = full starts (row13 ∙ rw (f, v)) (over_is (inl v) ∙ e)
       go false f false e =
-          ap (λ (q : Parsed). Decision.Write q (raised c)) (sym said_is ∙ ap (λ (u : Verb). said_by u c.cdb (found c)) v)
+          ap (λ (q : Parsed). Ok (Action.Write q (raised c))) (sym said_is ∙ ap (λ (u : Verb). said_by u c.cdb (found c)) v)
           ∙ (rw v at (does (passes starts (row13 ∙ rw (f, v)) (over_is (inl v) ∙ e))))
 
   clear_decided : p.verb ≡ Clear → clears (segment c) p c.on m.slice ≡ decision_of c m
@@ -274,10 +272,10 @@ module _ (c : Command) (m : Room) (p : Parsed) (l : LetIn c m p) where
       starts : starts_beyond c ≡ false
       starts = row12 ∙ rw v
 
-      go : (b : Bool) → over ≡ b → clears_to p (cond b Beyond (Within (raised c))) ≡ decision_of c m
+      go : (b : Bool) → over ≡ b → clears_to p (cond b None (Some (raised c))) ≡ decision_of c m
       go true e = full starts (row13 ∙ rw v) (over_is (inr v) ∙ e)
       go false e =
-          ap (λ (q : Parsed). Decision.Clear q (raised c)) (sym said_is ∙ ap (λ (u : Verb). said_by u c.cdb (found c)) v)
+          ap (λ (q : Parsed). Ok (Action.Clear q (raised c))) (sym said_is ∙ ap (λ (u : Verb). said_by u c.cdb (found c)) v)
           ∙ (rw v at (does (passes starts (row13 ∙ rw v) (over_is (inr v) ∙ e))))
 
   -- the same over the part that the code takes for the segment
@@ -293,6 +291,3 @@ module _ (c : Command) (m : Room) (p : Parsed) (l : LetIn c m p) where
 
   pub part_punches : p.verb ≡ Punch → (r : Decision) → r ≡ punches (take (p.segment - 0) c.out) p c.on.length → r ≡ decision_of c m
   part_punches v r e = e ∙ ap (λ (s : Bytes). punches s p c.on.length) (part_is c m p o) ∙ punch_decided v
-
--- what `decision::decide_readable` meets its contract by, but for row 10
-pub ruleset opened = (part_lists, start_refused, starts_right, not_let_in, let_in)

@@ -1,5 +1,5 @@
 -- What the decision answers, by the book's rows, and names for its parts over a command that was read.
-use Rattle.std.specs.Prelude.{Ok, Option, None, Some, ℕ, ◌/◌, ◌≡◌, Bool, false, cond, ◌&&◌, ◌||◌, ltb}
+use Rattle.std.specs.Prelude.{Ok, Option, None, Some, ℕ, ◌/◌, ◌≡◌, Bool, false, cond, ◌&&◌, ◌||◌, ltb, Result, Err}
 use Rattle.rules.specs.declared.Part.{Part}
 use Rattle.rules.specs.declared.Record.{Record}
 use Rattle.rules.specs.declared.Refusal.{Refusal}
@@ -12,26 +12,27 @@ use Rattle.rules.specs.Rows.{Room, object_unfit, list_with_start, list_fault, no
 use Rattle.rules.specs.Ranges.{reach}
 use Rattle.rules.specs.Segment.{entries_from}
 use Rattle.ranges.specs.Asked.{fault_in, beyond_in}
-use Rattle.ranges.specs.declared.Reach.{Reach}
-use Rattle.ranges.specs.declared.Reach.TheVariants.{Within, Beyond}
 use Rattle.header.specs.declared.Parsed.{Parsed}
 use Rattle.header.specs.Reading.{said_by, reading_of}
 use Rattle.header.specs.Ranges.{ranges_in}
-use Rattle.decision.specs.declared.Decision.{Decision}
-use Rattle.decision.specs.declared.Decision.TheVariants.{Refuse}
+use Rattle.decision.specs.declared.Action.{Action}
+
+-- the refusal, or what is to be carried out
+abbrev pub Decision : Type 0
+Decision = Result Action Refusal
 
 -- row 14: the length that is left, unless it would rise above the maximum or the slice
-unfoldable pub room_for : (logical maximum slice raised : ℕ) → Reach
-room_for logical maximum slice n = cond (ltb logical n && (ltb maximum n || ltb slice n)) Beyond (Within n)
+unfoldable pub room_for : (logical maximum slice raised : ℕ) → Option ℕ
+room_for logical maximum slice n = cond (ltb logical n && (ltb maximum n || ltb slice n)) None (Some n)
 
 -- what is decided of a call: the refusal, or what is to be carried out. Row 3 refuses a command without a verb, so the second line is never reached.
 abbrev pub decided : Option Refusal → Option Verb → Command → Decision
-decided (Some w) v c = Refuse w
-decided None None c = Refuse ActionUnknown
-decided None (Some Verb.Read) c = Decision.Read (said_by Verb.Read c.cdb (found c))
-decided None (Some Verb.Write) c = Decision.Write (said_by Verb.Write c.cdb (found c)) (raised c)
-decided None (Some Verb.Clear) c = Decision.Clear (said_by Verb.Clear c.cdb (found c)) (raised c)
-decided None (Some Verb.Punch) c = Decision.Punch (said_by Verb.Punch c.cdb (found c))
+decided (Some w) v c = Err w
+decided None None c = Err ActionUnknown
+decided None (Some Verb.Read) c = Ok (Action.Read (said_by Verb.Read c.cdb (found c)))
+decided None (Some Verb.Write) c = Ok (Action.Write (said_by Verb.Write c.cdb (found c)) (raised c))
+decided None (Some Verb.Clear) c = Ok (Action.Clear (said_by Verb.Clear c.cdb (found c)) (raised c))
+decided None (Some Verb.Punch) c = Ok (Action.Punch (said_by Verb.Punch c.cdb (found c)))
 
 unfoldable pub decision_of : Command → Room → Decision
 decision_of c m = decided (refusal c m) (verb c) c
@@ -54,26 +55,26 @@ pub record LetIn (c : Command) (m : Room) (p : Parsed) : Type 0 where
 -- rows 12 to 14 by the verb, of a command that was read
 unfoldable pub reads : (s : Bytes) → Parsed → (logical input : ℕ) → Decision
 reads s p n input =
-    cond (beyond_in (ranges_in s p) n) (Refuse StartsBeyond) (cond (ltb input p.size) (Refuse BufferShort) (Decision.Read p))
+    cond (beyond_in (ranges_in s p) n) (Err StartsBeyond) (cond (ltb input p.size) (Err BufferShort) (Ok (Action.Read p)))
 
-abbrev pub writes_to : Parsed → Reach → Decision
-writes_to p Beyond = Refuse NoRoom
-writes_to p (Within n) = Decision.Write p n
+abbrev pub writes_to : Parsed → Option ℕ → Decision
+writes_to p None = Err NoRoom
+writes_to p (Some n) = Ok (Action.Write p n)
 
 unfoldable pub writes : (s : Bytes) → Parsed → Record → (slice supplied : ℕ) → Decision
 writes s p on slice supplied =
-    cond (ltb supplied p.size) (Refuse BufferShort)
+    cond (ltb supplied p.size) (Err BufferShort)
     (writes_to p (room_for on.length on.maximum slice (reach on.length (ranges_in s p))))
 
-abbrev pub clears_to : Parsed → Reach → Decision
-clears_to p Beyond = Refuse NoRoom
-clears_to p (Within n) = Decision.Clear p n
+abbrev pub clears_to : Parsed → Option ℕ → Decision
+clears_to p None = Err NoRoom
+clears_to p (Some n) = Ok (Action.Clear p n)
 
 unfoldable pub clears : (s : Bytes) → Parsed → Record → (slice : ℕ) → Decision
 clears s p on slice = clears_to p (room_for on.length on.maximum slice (reach on.length (ranges_in s p)))
 
 unfoldable pub punches : (s : Bytes) → Parsed → (logical : ℕ) → Decision
-punches s p n = cond (beyond_in (ranges_in s p) n) (Refuse StartsBeyond) (Decision.Punch p)
+punches s p n = cond (beyond_in (ranges_in s p) n) (Err StartsBeyond) (Ok (Action.Punch p))
 
 -- row 10, of a command that was read
 abbrev pub fault_at : Option Part → Bytes → Parsed → Bool
