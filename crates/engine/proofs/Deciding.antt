@@ -1,5 +1,5 @@
 -- From the decision to the action: what was decided says which answer is wanted, and that nothing hinders it.
-use Rattle.std.specs.Prelude.{Ok, Option, None, Some}
+use Rattle.std.specs.Prelude.{Ok, Option, None, Some, Err}
 use Prim.Native.Nat.{ℕ, ◌+◌, ◌-◌, ◌≤◌}
 use mathlib.Core.Path.{◌≡◌, refl, ap, sym, subst, ◌∙◌}
 use mathlib.Core.Bool.{cond}
@@ -31,9 +31,8 @@ use Rattle.header.specs.declared.Parsed.{Parsed}
 use Rattle.header.specs.Reading.{said_by}
 use Rattle.header.specs.Ranges.{ranges_in}
 use Rattle.header.proofs.Rows.{read_by}
-use Rattle.decision.specs.declared.Decision.{Decision}
-use Rattle.decision.specs.declared.Decision.TheVariants.{Refuse}
-use Rattle.decision.specs.Decisions.{decided, decision_of, room, Open}
+use Rattle.decision.specs.declared.Action.{Action}
+use Rattle.decision.specs.Decisions.{Decision, decided, decision_of, room, Open}
 use Rattle.decision.proofs.Table.{start_is, size_is, end_is, ranges_are, part_is, part_ends, part_lists}
 use Rattle.object.specs.Ready.{sole, ForRead, ForWrite}
 use Rattle.actions.specs.Ready.{ForClear, ForPunch}
@@ -52,19 +51,19 @@ pub record Taken (c : Command) (m : Room) (v : Verb) (p : Parsed) : Type 0 where
 
 -- what a decision says of a call
 abbrev Facts : Command → Room → Decision → Type 0
-Facts c m (Refuse w) = Unit {0}
-Facts c m (Decision.Read p) = Taken c m Read p
-Facts c m (Decision.Write p n) = Taken c m Write p × (n ≡ raised c)
-Facts c m (Decision.Clear p n) = Taken c m Clear p × (n ≡ raised c)
-Facts c m (Decision.Punch p) = Taken c m Punch p
+Facts c m (Err w) = Unit {0}
+Facts c m (Ok (Action.Read p)) = Taken c m Read p
+Facts c m (Ok (Action.Write p n)) = Taken c m Write p × (n ≡ raised c)
+Facts c m (Ok (Action.Clear p n)) = Taken c m Clear p × (n ≡ raised c)
+Facts c m (Ok (Action.Punch p)) = Taken c m Punch p
 
 -- and which answer it asks for
 abbrev Wanted : Decision → Command → (slice input : Bytes) → Answered
-Wanted (Refuse w) c s i = refused w c s i
-Wanted (Decision.Read p) c s i = carried Read c s i
-Wanted (Decision.Write p n) c s i = carried Write c s i
-Wanted (Decision.Clear p n) c s i = carried Clear c s i
-Wanted (Decision.Punch p) c s i = carried Punch c s i
+Wanted (Err w) c s i = refused w c s i
+Wanted (Ok (Action.Read p)) c s i = carried Read c s i
+Wanted (Ok (Action.Write p n)) c s i = carried Write c s i
+Wanted (Ok (Action.Clear p n)) c s i = carried Clear c s i
+Wanted (Ok (Action.Punch p)) c s i = carried Punch c s i
 
 facts : (c : Command) (m : Room) → Facts c m (decision_of c m)
 unfolding decision_of
@@ -123,12 +122,12 @@ module _ (c : Command) (s i : Bytes) (d : Decision) (is : d ≡ decision_of c (r
   asked : Wanted d c s i ≡ answered c s i
   asked = ap (λ (e : Decision). Wanted e c s i) is ∙ wanted c s i
 
-  pub refused_told : (w : Refusal) → d ≡ Refuse w → whole (answer (Refused w) 0 c.on) s i ≡ answered c s i
+  pub refused_told : (w : Refusal) → d ≡ Err w → whole (answer (Refused w) 0 c.on) s i ≡ answered c s i
   unfolding refused
   refused_told w e = rw e at asked
 
   -- ---- READ
-  module _ (p : Parsed) (e : d ≡ Decision.Read p) where
+  module _ (p : Parsed) (e : d ≡ Ok (Action.Read p)) where
     t_read : Taken c (room (length s) (length i)) Read p
     t_read = subst (Facts c _) e told
 
@@ -152,7 +151,7 @@ module _ (c : Command) (s i : Bytes) (d : Decision) (is : d ≡ decision_of c (r
     was_read r j h = rw (h.0, h.1, ranges_read t_read, ← size_is c _ p (open_to t_read)) (rw e at asked)
 
   -- ---- WRITE
-  module _ (p : Parsed) (n : ℕ) (e : d ≡ Decision.Write p n) where
+  module _ (p : Parsed) (n : ℕ) (e : d ≡ Ok (Action.Write p n)) where
     t_write : Taken c (room (length s) (length i)) Write p
     t_write = (subst (Facts c _) e told).0
 
@@ -189,7 +188,7 @@ module _ (c : Command) (s i : Bytes) (d : Decision) (is : d ≡ decision_of c (r
     was_written r t h = rw (h.0, h.1, w_raised, ranges_read t_write, data_are, ← size_is c _ p (open_to t_write)) (rw e at asked)
 
   -- ---- CLEAR
-  module _ (p : Parsed) (n : ℕ) (e : d ≡ Decision.Clear p n) where
+  module _ (p : Parsed) (n : ℕ) (e : d ≡ Ok (Action.Clear p n)) where
     t_clear : Taken c (room (length s) (length i)) Clear p
     t_clear = (subst (Facts c _) e told).0
 
@@ -210,7 +209,7 @@ module _ (c : Command) (s i : Bytes) (d : Decision) (is : d ≡ decision_of c (r
     was_cleared r t h = rw (h.0, h.1, c_raised, ← sole_cleared, ← size_is c _ p (open_to t_clear)) (rw e at asked)
 
   -- ---- PUNCH
-  module _ (p : Parsed) (e : d ≡ Decision.Punch p) where
+  module _ (p : Parsed) (e : d ≡ Ok (Action.Punch p)) where
     t_punch : Taken c (room (length s) (length i)) Punch p
     t_punch = subst (Facts c _) e told
 
