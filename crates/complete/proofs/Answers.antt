@@ -1,12 +1,17 @@
 -- Contracts are complete: any two answers that one allows are equal, and so is what they leave in each slice and number that was lent
 -- to be written. `F.Post` is what the function F ensures, as the toolchain makes it of the source: a are its arguments, r and r'
 -- two answers, s and s' its parameters at the return, in their order (the third is `s.1.1.0`). What is lent by `&` can't change.
-use mathlib.Core.Path.{◌≡◌, ap, sym, ◌∙◌}
+use mathlib.Core.Path.{◌≡◌, refl, ap, sym, ◌∙◌}
+use native.Mathlib.Omega.{arith}
 use lib.ListN.{length-replicate}
 use Rattle.rules.specs.declared.Record.{Record}
 use Rattle.rules.specs.Bytes.{Bytes, zeros}
 use Rattle.rules.specs.Answer.{Answered}
 use Rattle.rules.specs.Writer.{Written}
+use Rattle.std.specs.Prelude.{ℕ, Result, Ok, Err}
+use Rattle.writer.specs.declared.Unwritten.{Unwritten}
+use Rattle.writer.specs.declared.Unwritten.TheVariants.{NotACommand, BuffersShort}
+use Rattle.writer.specs.Post.{number_of, size_of}
 use Rattle.holmweder.specs.Face.{Seen}
 use Rattle.rules.proofs.Record.with_length.Reads as with_length
 use Rattle.rules.proofs.Record.shortened.Reads as shortened
@@ -276,13 +281,25 @@ one_execute κs a r r' s s' e f =
     (ap (λ (x : Answered). x.answer) w, ap (λ (x : Answered). x.slice) w, ap (λ (x : Answered). x.input) w)
 
 -- ---- `writer`: the host's writer
+-- an answer is told by its number and its length
+same_answer : (r r' : Result ℕ Unwritten) → number_of r ≡ number_of r' → size_of r ≡ size_of r' → r ≡ r'
+same_answer (Ok n) (Ok n') e f = ap Ok f
+same_answer (Ok n) (Err NotACommand) e f = absurd (omega arith)
+same_answer (Ok n) (Err BuffersShort) e f = absurd (omega arith)
+same_answer (Err NotACommand) (Ok n) e f = absurd (omega arith)
+same_answer (Err BuffersShort) (Ok n) e f = absurd (omega arith)
+same_answer (Err NotACommand) (Err NotACommand) e f = refl
+same_answer (Err NotACommand) (Err BuffersShort) e f = absurd (omega arith)
+same_answer (Err BuffersShort) (Err NotACommand) e f = absurd (omega arith)
+same_answer (Err BuffersShort) (Err BuffersShort) e f = refl
+
 one_write_command : (κs : _) (a : _) (r r' : _) (s s' : _)
     → write_command.Post κs a r s → write_command.Post κs a r' s'
-    → (r.number ≡ r'.number)
-    × (r.size ≡ r'.size)
-    × (s.1.1.1.1.1.1.1.1.1.0.now ≡ s'.1.1.1.1.1.1.1.1.1.0.now)
-    × (s.1.1.1.1.1.1.1.1.1.1.0.now ≡ s'.1.1.1.1.1.1.1.1.1.1.0.now)
-one_write_command κs a r r' s s' e f = (e.number ∙ sym f.number, e.size ∙ sym f.size, e.cdb ∙ sym f.cdb, e.segment ∙ sym f.segment)
+    → (r ≡ r')
+    × (s.1.0.now ≡ s'.1.0.now)
+    × (s.1.1.0.now ≡ s'.1.1.0.now)
+one_write_command κs a r r' s s' e f =
+    (same_answer r r' (e.number ∙ sym f.number) (e.size ∙ sym f.size), e.cdb ∙ sym f.cdb, e.segment ∙ sym f.segment)
 
 -- ---- `holmweder`: the C face
 one_holmweder_execute : (κs : _) (a : _) (r r' : _) (s s' : _)

@@ -11,10 +11,12 @@ ghost use Rattle.rules.specs.Writer.{written};
 ghost use Rattle.header.specs.Reading.{command};
 ghost use Rattle.question.specs.Places.{place_of};
 ghost use Rattle.writer.specs.Planning.{request};
+ghost use Rattle.writer.specs.Post.{number_of, size_of};
 ghost use Rattle.holmweder.specs.Face.{record_of, range_of, seen, seen_of, Told, wrote};
 
 use question::Place;
 use rules::{Range, Record};
+use writer::{List, Request, Unwritten};
 
 // One command, on the record as numbers.
 pub fn holmweder_execute(
@@ -112,6 +114,18 @@ pub fn holmweder_status(number: u32) -> u32
     numbers::status_of(number)
 }
 
+// What the writer answers, as a number, and the segment's length.
+fn number_and_length(answer: Result<usize, Unwritten>) -> (u32, u64)
+    ensures number { result.0 ≡ number_of answer }
+    ensures length { result.1 ≡ size_of answer }
+{
+    match answer {
+        Ok(length) => (0, length as u64),
+        Err(Unwritten::NotACommand) => (16, 0),
+        Err(Unwritten::BuffersShort) => (17, 0),
+    }
+}
+
 // A command for the engine, from what it is to say. Any `listed` but 0 is yes.
 pub fn holmweder_write(
     action: u64,
@@ -131,19 +145,17 @@ pub fn holmweder_write(
         ≡ written (request action partition object start size (not (eqb listed 0)) offsets.now lengths.now capabilities.now)
         cdb.old segment.old }
 {
-    let answer = writer::write_command(
+    let list = List { offsets, lengths };
+    let request = Request {
         action,
         partition,
         object,
         start,
         size,
-        listed != 0,
-        offsets,
-        lengths,
+        list: (listed != 0).then_some(list),
         capabilities,
-        cdb,
-        segment,
-    );
-    *segment_length = answer.size as u64;
-    answer.number
+    };
+    let (number, length) = number_and_length(writer::write_command(request, cdb, segment));
+    *segment_length = length;
+    number
 }

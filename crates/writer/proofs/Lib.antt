@@ -1,8 +1,9 @@
-pub mod Verbs
-pub mod Sizes
-pub mod Planned
-pub mod Whole
 pub mod Beside
-pub mod CdbPieces
 pub mod Numbers
+pub mod Verbs
+pub mod Planned
+pub mod Sizes
+pub mod CdbPieces
 pub mod SegmentPieces
+pub mod Whole
+pub mod Unlisted

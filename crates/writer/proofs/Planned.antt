@@ -15,10 +15,10 @@ use Rattle.rules.specs.Command.{WRITE, CLEAR, PUNCH, verb_of, asks, is_write}
 use Rattle.rules.specs.Ranges.{total, overlapping}
 use Rattle.rules.specs.Writer.{Request, paired, entries, length_for, refusals}
 use Rattle.rules.proofs.First.{holds_at, nothing_holds}
-use Rattle.ranges.specs.declared.Sum.{Sum}
-use Rattle.ranges.specs.declared.Sum.TheVariants.{Fits, Over}
 use Rattle.ranges.specs.Sums.{summed}
-use Rattle.writer.specs.declared.Plan.TheVariants.{Length, Refused}
+use Rattle.writer.specs.declared.List.{List as Listing}
+use Rattle.writer.specs.declared.Request.{Request as Asked}
+use Rattle.writer.specs.Asked.{request_of}
 use Rattle.writer.specs.Planning.{list_tests, planned}
 use Rattle.writer.proofs.Verbs.{not_write, may_list}
 
@@ -31,112 +31,110 @@ some_holds ts k h = go (first_of ts) refl
     go (Some n) e = refl
 
 -- what a sum says of the total
-sum_over : (t : ℕ) → Over ≡ summed t → 2 ^ 64 ≤ t
+sum_over : (t : ℕ) → None ≡ summed t → 2 ^ 64 ≤ t
 unfolding summed
 sum_over t e = go (ltb t (2 ^ 64)) refl e
   where
-    go : (b : Bool) → ltb t (2 ^ 64) ≡ b → Over ≡ cond b (Fits t) Over → 2 ^ 64 ≤ t
+    go : (b : Bool) → ltb t (2 ^ 64) ≡ b → None ≡ cond b (Some t) None → 2 ^ 64 ≤ t
     go true h f = let z : ◌≡◌ {A = ℕ} 0 1 = cc in absurd (omega arith)
     go false h f = ltb-false t (2 ^ 64) h
 
-sum_fits : (t s : ℕ) → Fits s ≡ summed t → (s ≡ t) × (t < 2 ^ 64)
+sum_fits : (t s : ℕ) → Some s ≡ summed t → (s ≡ t) × (t < 2 ^ 64)
 unfolding summed
 sum_fits t s e = go (ltb t (2 ^ 64)) refl e
   where
-    go : (b : Bool) → ltb t (2 ^ 64) ≡ b → Fits s ≡ cond b (Fits t) Over → (s ≡ t) × (t < 2 ^ 64)
+    go : (b : Bool) → ltb t (2 ^ 64) ≡ b → Some s ≡ cond b (Some t) None → (s ≡ t) × (t < 2 ^ 64)
     go true h f = (cc, ltb-true t (2 ^ 64) h)
     go false h f = let z : ◌≡◌ {A = ℕ} 0 1 = cc in absurd (omega arith)
 
 module _ (q : Request) where
-  by_test : (k : ℕ) → holds_at (list_tests q) k ≡ true → Refused ≡ planned q
+  by_test : (k : ℕ) → holds_at (list_tests q) k ≡ true → None ≡ planned q
   unfolding planned
   by_test k h = rw (some_holds (list_tests q) k h)
 
-  pub unlisted : q.listed ≡ false → Length q.size ≡ planned q
-  unfolding planned list_tests refusals first_of length_for
-  unlisted e = rw e
+pub unlisted : (r : Asked) → r.list ≡ None → Some r.size ≡ planned (request_of r)
+unfolding planned list_tests refusals first_of length_for
+unlisted r e = rw e
 
-  pub unequal : q.listed ≡ true → (length q.offsets ≡ length q.lengths → ⊥) → Refused ≡ planned q
+module _ (r : Asked) (l : Listing) (is : r.list ≡ Some l) where
+  pub unequal : (length l.offsets.now ≡ length l.lengths.now → ⊥) → None ≡ planned (request_of r)
   unfolding list_tests refusals
-  unequal l n = by_test 0 (rw (l, ne_eqb (length q.offsets) (length q.lengths) n))
+  unequal n = by_test (request_of r) 0 (rw (is, ne_eqb (length l.offsets.now) (length l.lengths.now) n))
 
-  pub too_long : q.listed ≡ true → 64 < length q.offsets → Refused ≡ planned q
+  pub too_long : 64 < length l.offsets.now → None ≡ planned (request_of r)
   unfolding list_tests refusals
-  too_long l n = by_test 0 (rw (l, lt-ltb 64 (length q.offsets) n, or-true))
+  too_long n = by_test (request_of r) 0 (rw (is, lt-ltb 64 (length l.offsets.now) n, or-true))
 
-  pub cleared : q.listed ≡ true → q.action ≡ CLEAR → Refused ≡ planned q
+  pub cleared : r.action ≡ CLEAR → None ≡ planned (request_of r)
   unfolding list_tests refusals verb_of first_of
-  cleared l a = by_test 1 (rw (l, a))
+  cleared a = by_test (request_of r) 1 (rw (is, a))
 
-  pub punched : q.listed ≡ true → q.action ≡ PUNCH → Refused ≡ planned q
+  pub punched : r.action ≡ PUNCH → None ≡ planned (request_of r)
   unfolding list_tests refusals verb_of first_of
-  punched l a = by_test 1 (rw (l, a))
+  punched a = by_test (request_of r) 1 (rw (is, a))
 
-  pub started : q.listed ≡ true → (q.start ≡ 0 → ⊥) → Refused ≡ planned q
+  pub started : (r.start ≡ 0 → ⊥) → None ≡ planned (request_of r)
   unfolding list_tests refusals
-  started l s = by_test 2 (rw (l, ne_eqb q.start 0 s))
+  started s = by_test (request_of r) 2 (rw (is, ne_eqb r.start 0 s))
 
   -- of slices of one length, the first so many entries are all of them
-  all_taken : length q.offsets ≡ length q.lengths → take (length q.offsets) q.lengths ≡ q.lengths
-  all_taken e = take_all (length q.offsets) q.lengths (le_of_eq (sym e))
+  all_taken : length l.offsets.now ≡ length l.lengths.now → take (length l.offsets.now) l.lengths.now ≡ l.lengths.now
+  all_taken e = take_all (length l.offsets.now) l.lengths.now (le_of_eq (sym e))
 
   -- what `sum_of` says of the list's lengths, whatever the offsets
-  of_entries : {r : Sum} → length q.offsets ≡ length q.lengths
-      → ((os : List ℕ) → length os ≡ length q.offsets → r ≡ summed (total (paired os (take (length q.offsets) q.lengths))))
-      → r ≡ summed (total (entries q))
-  unfolding entries
-  of_entries e says = says q.offsets refl ∙ rw (all_taken e)
+  of_entries : {s : Option ℕ} → length l.offsets.now ≡ length l.lengths.now
+      → ((os : List ℕ) → length os ≡ length l.offsets.now → s ≡ summed (total (paired os (take (length l.offsets.now) l.lengths.now))))
+      → s ≡ summed (total (paired l.offsets.now l.lengths.now))
+  of_entries e says = says l.offsets.now refl ∙ rw (all_taken e)
 
-  pub sum_too_large : q.listed ≡ true → length q.offsets ≡ length q.lengths
-      → ((os : List ℕ) → length os ≡ length q.offsets → Over ≡ summed (total (paired os (take (length q.offsets) q.lengths))))
-      → Refused ≡ planned q
+  pub sum_too_large : length l.offsets.now ≡ length l.lengths.now
+      → ((os : List ℕ) → length os ≡ length l.offsets.now → None ≡ summed (total (paired os (take (length l.offsets.now) l.lengths.now))))
+      → None ≡ planned (request_of r)
   unfolding list_tests refusals entries
-  sum_too_large l e says = by_test 3 (rw l (le-leb (2 ^ 64) (total (entries q)) (sum_over (total (entries q)) (of_entries e says))))
+  sum_too_large e says =
+      let t : ℕ = total (paired l.offsets.now l.lengths.now) in
+      by_test (request_of r) 3 (rw is (le-leb (2 ^ 64) t (sum_over t (of_entries e says))))
 
   -- what `overlap` says of the list
-  overlap_of : {b : Bool} → length q.offsets ≡ length q.lengths
-      → b ≡ overlapping (paired (take (length q.offsets) q.offsets) (take (length q.offsets) q.lengths))
-      → b ≡ overlapping (entries q)
-  unfolding entries
-  overlap_of e is = is ∙ rw (take-length q.offsets, all_taken e)
+  overlap_of : {b : Bool} → length l.offsets.now ≡ length l.lengths.now
+      → b ≡ overlapping (paired (take (length l.offsets.now) l.offsets.now) (take (length l.offsets.now) l.lengths.now))
+      → b ≡ overlapping (paired l.offsets.now l.lengths.now)
+  overlap_of e b = b ∙ rw (take-length l.offsets.now, all_taken e)
 
-  pub shared : {b : Bool} → q.listed ≡ true → length q.offsets ≡ length q.lengths → q.action ≡ WRITE
-      → b ≡ overlapping (paired (take (length q.offsets) q.offsets) (take (length q.offsets) q.lengths)) → b ≡ true
-      → Refused ≡ planned q
+  pub shared : {b : Bool} → length l.offsets.now ≡ length l.lengths.now → r.action ≡ WRITE
+      → b ≡ overlapping (paired (take (length l.offsets.now) l.offsets.now) (take (length l.offsets.now) l.lengths.now)) → b ≡ true
+      → None ≡ planned (request_of r)
   unfolding list_tests refusals entries verb_of first_of
-  shared l e a is t = by_test 4 (rw (l, a) (sym (overlap_of e is) ∙ t))
+  shared e a o t = by_test (request_of r) 4 (rw (is, a) (sym (overlap_of e o) ∙ t))
 
-  -- none of the five holds
-  pub record Sound (total' : ℕ) : Type 0 where
-    pub listed : q.listed ≡ true
-    pub equal : length q.offsets ≡ length q.lengths
-    pub few : length q.offsets ≤ 64
-    pub clear : q.action ≡ CLEAR → ⊥
-    pub punch : q.action ≡ PUNCH → ⊥
-    pub start : q.start ≡ 0
-    pub sum : (os : List ℕ) → length os ≡ length q.offsets → Fits total' ≡ summed (total (paired os (take (length q.offsets) q.lengths)))
+  -- the last of the five doesn't hold
+  pub apart : {b : Bool} → length l.offsets.now ≡ length l.lengths.now
+      → b ≡ overlapping (paired (take (length l.offsets.now) l.offsets.now) (take (length l.offsets.now) l.lengths.now)) → b ≡ false
+      → asks (verb_of r.action) is_write && overlapping (paired l.offsets.now l.lengths.now) ≡ false
+  apart e o f = rw (sym (overlap_of e o) ∙ f) (and-false (asks (verb_of r.action) is_write))
 
-  passes : {t : ℕ} → Sound t → asks (verb_of q.action) is_write && overlapping (entries q) ≡ false → Length t ≡ planned q
+  pub no_write : (r.action ≡ WRITE → ⊥) → asks (verb_of r.action) is_write && overlapping (paired l.offsets.now l.lengths.now) ≡ false
+  no_write w = rw (not_write r.action w)
+
+  -- nor do the others
+  pub passes : {t : ℕ} → length l.offsets.now ≡ length l.lengths.now → length l.offsets.now ≤ 64
+      → (r.action ≡ CLEAR → ⊥) → (r.action ≡ PUNCH → ⊥) → r.start ≡ 0
+      → ((os : List ℕ) → length os ≡ length l.offsets.now → Some t ≡ summed (total (paired os (take (length l.offsets.now) l.lengths.now))))
+      → asks (verb_of r.action) is_write && overlapping (paired l.offsets.now l.lengths.now) ≡ false
+      → Some t ≡ planned (request_of r)
   unfolding planned list_tests refusals first_of length_for entries
-  passes {t} k o =
-      let f = sum_fits (total (entries q)) t (of_entries k.equal k.sum) in
+  passes {t} equal few clear punch start sum o =
+      let f = sum_fits (total (paired l.offsets.now l.lengths.now)) t (of_entries equal sum) in
       rw (
-        k.listed,
-        eq-eqb (length q.offsets) (length q.lengths) k.equal,
-        le-ltb 64 (length q.offsets) k.few,
-        may_list q.action k.clear k.punch,
-        eq-eqb q.start 0 k.start,
-        lt-leb (2 ^ 64) (total (entries q)) f.1,
+        is,
+        eq-eqb (length l.offsets.now) (length l.lengths.now) equal,
+        le-ltb 64 (length l.offsets.now) few,
+        may_list r.action clear punch,
+        eq-eqb r.start 0 start,
+        lt-leb (2 ^ 64) (total (paired l.offsets.now l.lengths.now)) f.1,
         o,
       )
-      (ap Length f.0)
+      (ap Some f.0)
 
-  pub apart : {t : ℕ} {b : Bool} → Sound t
-      → b ≡ overlapping (paired (take (length q.offsets) q.offsets) (take (length q.offsets) q.lengths)) → b ≡ false → Length t ≡ planned q
-  apart k is f = passes k (rw (sym (overlap_of k.equal is) ∙ f) (and-false (asks (verb_of q.action) is_write)))
-
-  pub no_write : {t : ℕ} → Sound t → (q.action ≡ WRITE → ⊥) → Length t ≡ planned q
-  no_write k w = passes k (rw (not_write q.action w))
-
--- what `writer::plan_of` meets its contract by
+-- what `writer::length_of` meets its contract by
 pub ruleset plans = (unlisted, unequal, too_long, cleared, punched, started, sum_too_large, shared)

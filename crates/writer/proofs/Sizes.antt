@@ -1,24 +1,32 @@
--- How long the segment is, in numbers.
-use Prim.Native.Nat.{ℕ, ◌+◌, ◌*◌, ◌-◌, ◌≤◌, ◌<◌}
+-- How long the segment is, in numbers: m is what the capabilities have past the first.
+use Prim.Native.Nat.{ℕ, ◌+◌, ◌*◌, ◌-◌}
 use mathlib.Core.Path.{◌≡◌}
-use mathlib.Core.Bool.{Bool, true, false}
 use native.Mathlib.Omega.{arith}
 use borrow.Author.Tests.{lt-ltb, le-ltb}
+use lib.ListN.{length}
+use Rattle.std.specs.Prelude.{Some, None}
+use Rattle.writer.specs.declared.List.{List as Listing}
+use Rattle.writer.specs.declared.Request.{Request as Asked}
+use Rattle.writer.specs.Asked.{request_of}
 use Rattle.writer.specs.SegmentParts.{size_for}
 
-module _ (l : Bool) (n k : ℕ) where
-  pub list_alone : l ≡ true → n ≤ 64 → k ≤ 104 → (48 + 16 * n ≡ size_for l n k) × (48 + 16 * n ≤ 1912)
+module _ (r : Asked) (m : ℕ) (more : m ≡ length r.capabilities.now - 104) where
+  pub no_segment : r.list ≡ None → m ≡ 0 → 0 ≡ size_for (request_of r)
   unfolding size_for
-  list_alone e h m = (rw (e, le-ltb 104 k m) (omega arith), omega arith)
+  no_segment e z = rw (e, le-ltb 104 (length r.capabilities.now) (omega arith))
 
-  pub list_extended : l ≡ true → n ≤ 64 → k ≤ 936 → 104 < k → (56 + 16 * n + (k - 104) ≡ size_for l n k) × (56 + 16 * n + (k - 104) ≤ 1912)
+  pub extended_alone : r.list ≡ None → (m ≡ 0 → ⊥) → 48 + m ≡ size_for (request_of r)
   unfolding size_for
-  list_extended e h m x = (rw (e, lt-ltb 104 k x) (omega arith), omega arith)
+  extended_alone e z = rw (e, lt-ltb 104 (length r.capabilities.now) (omega arith)) (omega arith)
 
-  pub no_segment : l ≡ false → k ≤ 104 → (0 ≡ size_for l n k) × (0 ≤ 1912)
-  unfolding size_for
-  no_segment e m = (rw (e, le-ltb 104 k m), omega arith)
+  module _ (l : Listing) where
+    pub list_alone : r.list ≡ Some l → m ≡ 0 → 48 + 16 * length l.offsets.now ≡ size_for (request_of r)
+    unfolding size_for
+    list_alone e z = rw (e, le-ltb 104 (length r.capabilities.now) (omega arith)) (omega arith)
 
-  pub extended_alone : l ≡ false → k ≤ 936 → 104 < k → (48 + (k - 104) ≡ size_for l n k) × (48 + (k - 104) ≤ 1912)
-  unfolding size_for
-  extended_alone e m x = (rw (e, lt-ltb 104 k x) (omega arith), omega arith)
+    pub list_extended : r.list ≡ Some l → (m ≡ 0 → ⊥) → 48 + 16 * length l.offsets.now + 8 + m ≡ size_for (request_of r)
+    unfolding size_for
+    list_extended e z = rw (e, lt-ltb 104 (length r.capabilities.now) (omega arith)) (omega arith)
+
+-- what `writer::segment_size` meets its contract by
+pub ruleset sizes = (no_segment, extended_alone, list_alone, list_extended)

@@ -1,19 +1,20 @@
 -- The bytes of a CDB, one behind the other.
 use Rattle.std.specs.Prelude.{ℕ, [], ◌∷◌, ◌++◌, take}
 use Rattle.rules.specs.Bytes.{Bytes, zeros, to_be}
+use Rattle.rules.specs.Writer.{Request}
 
-unfoldable pub cdb_parts : (action partition object size start continuation : ℕ) → (capabilities : Bytes) → Bytes
-cdb_parts a p o n s k cs =
+unfoldable pub cdb_parts : Request → (size continuation : ℕ) → Bytes
+cdb_parts q size continuation =
     (0x7F ∷ [])
     ++ zeros 6
     ++ (228 ∷ [])
-    ++ to_be 2 a
+    ++ to_be 2 q.action
     ++ zeros 6
-    ++ to_be 8 p
-    ++ to_be 8 o
-    ++ to_be 8 n
-    ++ to_be 8 s
-    ++ to_be 4 k
+    ++ to_be 8 q.partition
+    ++ to_be 8 q.object
+    ++ to_be 8 size
+    ++ to_be 8 q.start
+    ++ to_be 4 continuation
     ++ zeros 28
-    ++ take 104 cs
+    ++ take 104 q.capabilities
     ++ zeros 52

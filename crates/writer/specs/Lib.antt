@@ -1,3 +1,4 @@
+pub mod Asked
 pub mod Planning
 pub mod Post
 pub mod CdbParts

@@ -1,10 +1,8 @@
 -- What the writer knows of a request before it looks at the buffers.
-use Rattle.std.specs.Prelude.{is_some, ℕ, Bool, cond, List, take, drop}
+use Rattle.std.specs.Prelude.{is_some, ℕ, Bool, cond, List, take, drop, Option, None, Some}
 use Rattle.rules.specs.Bytes.{Bytes}
 use Rattle.rules.specs.Tests.{Test, first_of}
 use Rattle.rules.specs.Writer.{Request, length_for, refusals}
-use Rattle.writer.specs.declared.Plan.{Plan}
-use Rattle.writer.specs.declared.Plan.TheVariants.{Length, Refused}
 
 abbrev pub request : (action partition object start size : ℕ) → (listed : Bool) → (offsets lengths : List ℕ) → (capabilities : Bytes) → Request
 request action partition object start size listed offsets lengths capabilities =
@@ -24,6 +22,6 @@ request action partition object start size listed offsets lengths capabilities =
 unfoldable pub list_tests : Request → List (Test ℕ)
 list_tests q = take 5 (drop 2 (refusals q 0 0))
 
--- refused, or what LENGTH is
-unfoldable pub planned : Request → Plan
-planned q = cond (is_some (first_of (list_tests q))) Refused (Length (length_for q))
+-- what LENGTH is, unless the list is refused
+unfoldable pub planned : Request → Option ℕ
+planned q = cond (is_some (first_of (list_tests q))) None (Some (length_for q))

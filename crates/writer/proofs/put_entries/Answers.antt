@@ -1,17 +1,28 @@
-use mathlib.Core.Path.{refl, ◌∙◌}
+-- `writer::put_entries` meets its contract.
+use mathlib.Core.Path.{◌≡◌, sym, ◌∙◌}
 use native.Mathlib.Omega.{arith}
+use borrow.Author.Rules.{rules}
+use lib.ListN.{length}
+use Rattle.std.specs.Iterator.Adapters.{zip_first}
+use Rattle.std.specs.Slice.Iter.{iter_rest}
 use Rattle.writer.proofs.Beside.{pair_laid}
-use Rattle.writer.proofs.SegmentPieces.{entries_none, entries_more}
+use Rattle.writer.proofs.SegmentPieces.{entry_more, entries_end}
 use Rattle.writer.proofs.put_entries.Goals as goal
 
-pub loop-i-init : goal.loop-i-init
-loop-i-init c = (omega arith, refl, entries_none _ _)
+pub loop-offset-preserved : goal.loop-offset-preserved
+loop-offset-preserved c =
+    let here = c.in-Some.ensures.steps in
+    record {
+      can_next = search rules;
+      finite = search rules;
+      equal = search rules;
+      room = search rules;
+      rest = entry_more _ _ _ _ here.0 here.1 (omega arith) (pair_laid _ _ _ _ (omega arith) c.put64.ensures c.put64-in-loop-offset.ensures)
+          c.loop-offset.invariant.rest;
+    }
 
-pub loop-i-preserved : goal.loop-i-preserved
-loop-i-preserved c =
-    let l = c.loop-i in
-    let one = pair_laid _ _ _ _ (omega (arith, c.requires)) c.put64.ensures c.put64-in-loop-i.ensures in (
-      omega arith,
-      c.put64-in-loop-i.auto.d ∙ c.put64.auto.d ∙ l.invariant.1,
-      entries_more _ _ _ _ _ c.loop-i-test.true c.requires.0 (omega (arith, c.requires)) l.invariant.2 one,
-    )
+pub returns : goal.returns
+returns c =
+    let left = iter_rest (zip_first c.loop-offset.offset-iterator) in
+    let none : length left ≡ 0 = grind (arith, c.in-None.ensures.steps, c.loop-offset.invariant.equal) in
+    sym (entries_end _ left _ _ none) ∙ c.loop-offset.invariant.rest
