@@ -79,23 +79,23 @@ impl TryFrom<u64> for Verb {
     }
 }
 
-// Rows 1 to 14 of the table of numbers, in its order.
+// Rows 1 to 14 of the table of numbers, each with its number.
 #[derive(Clone, Copy)]
 pub enum Refusal {
-    ObjectUnfit,
-    CdbMalformed,
-    ActionUnknown,
-    OtherObject,
-    ContinuationLength,
-    SegmentHeader,
-    Descriptor,
-    ListForbidden,
-    ListWithStart,
-    ListFault,
-    NotAdmitted,
-    StartsBeyond,
-    BufferShort,
-    NoRoom,
+    ObjectUnfit = 1,
+    CdbMalformed = 2,
+    ActionUnknown = 3,
+    OtherObject = 4,
+    ContinuationLength = 5,
+    SegmentHeader = 6,
+    Descriptor = 7,
+    ListForbidden = 8,
+    ListWithStart = 9,
+    ListFault = 10,
+    NotAdmitted = 11,
+    StartsBeyond = 12,
+    BufferShort = 13,
+    NoRoom = 14,
 }
 
 // How a command ended. `Ended` is a READ that met the logical length before it had all its bytes.
