@@ -1,7 +1,9 @@
 -- A section and the layout, test by test, and what holds of a sound layout.
 use Prim.Native.Nat.{ℕ, ◌+◌, ◌-◌, ◌≤◌, ◌<◌}
 use mathlib.Core.Path.{◌≡◌, refl}
-use mathlib.Core.Bool.{Bool, true, false, cond, ◌&&◌}
+use mathlib.Core.Bool.{Bool, true, false, ◌&&◌}
+use Rattle.std.specs.Prelude.{Option, Some, None}
+use Rattle.std.specs.Bool.{then_some}
 use native.Mathlib.Omega.{arith}
 use lib.Dec.{eqb, leb}
 use lib.ListN.{length}
@@ -9,29 +11,27 @@ use borrow.Author.Tests.{le-leb, lt-leb, leb-true, eq-eqb, ne_eqb, eqb-true}
 use Rattle.rules.specs.declared.Part.{Part}
 use Rattle.rules.specs.Bytes.{Bytes, field}
 use Rattle.rules.proofs.Booleans.{and_true_parts}
-use Rattle.callfile.specs.declared.Section.{Section}
 use Rattle.callfile.specs.declared.Sections.{Sections}
-use Rattle.callfile.specs.declared.Layout.{Layout}
 use Rattle.callfile.specs.File.{section_at, end, followed, layout_of, record_of, Inside}
 
 module _ (f : Bytes) (at most : ℕ) (l : at ≤ length f) where
-  pub no_count : length f - at < 4 → Section.Bad ≡ section_at f at most
+  pub no_count : length f - at < 4 → None ≡ section_at f at most
   unfolding section_at
   no_count h = let q : length f < at + 4 = omega arith in rw (lt-leb _ _ q)
 
   module _ (n : ℕ) (e : n ≡ field at 4 f) (h : 4 ≤ length f - at) where
-    pub over : most < n → Section.Bad ≡ section_at f at most
+    pub over : most < n → None ≡ section_at f at most
     unfolding section_at
     over o = let q : at + 4 ≤ length f = omega arith in rw (le-leb _ _ q, ← e, lt-leb _ _ o)
 
-    pub ends_early : n ≤ most → length f - at - 4 < n → Section.Bad ≡ section_at f at most
+    pub ends_early : n ≤ most → length f - at - 4 < n → None ≡ section_at f at most
     unfolding section_at
     ends_early o c =
         let q : at + 4 ≤ length f = omega arith in
         let r : length f < at + 4 + n = omega arith in
         rw (le-leb _ _ q, ← e, le-leb _ _ o, lt-leb _ _ r)
 
-    pub whole : n ≤ most → n ≤ length f - at - 4 → Section.At (record { at = at + 4; size = n }) ≡ section_at f at most
+    pub whole : n ≤ most → n ≤ length f - at - 4 → Some (record { at = at + 4; size = n }) ≡ section_at f at most
     unfolding section_at
     whole o c =
         let q : at + 4 ≤ length f = omega arith in
@@ -39,12 +39,12 @@ module _ (f : Bytes) (at most : ℕ) (l : at ≤ length f) where
         rw (le-leb _ _ q, ← e, le-leb _ _ o, le-leb _ _ r)
 
 -- a section that is there has passed its test
-there : (b : Bool) (p q : Part) → cond b (Section.At p) Section.Bad ≡ Section.At q → (b ≡ true) × (p ≡ q)
+there : (b : Bool) (p q : Part) → then_some b p ≡ Some q → (b ≡ true) × (p ≡ q)
 there true p q e = (refl, (cc))
 there false p q e = let z : ◌≡◌ {A = ℕ} 0 1 = cc in absurd (omega arith)
 
 -- a section ends inside the file, and keeps its limit
-module _ (f : Bytes) (at most : ℕ) (p : Part) (e : section_at f at most ≡ Section.At p) where
+module _ (f : Bytes) (at most : ℕ) (p : Part) (e : section_at f at most ≡ Some p) where
   tested : (leb (at + 4) (length f) && leb (field at 4 f) most && leb (at + 4 + field at 4 f) (length f) ≡ true)
       × (record { at = at + 4; size = field at 4 f } ≡ p)
   unfolding section_at
@@ -60,54 +60,54 @@ module _ (f : Bytes) (at most : ℕ) (p : Part) (e : section_at f at most ≡ Se
 
 -- the layout, section by section
 module _ (f : Bytes) where
-  pub no_cdb : section_at f 0 1024 ≡ Section.Bad → Layout.Bad ≡ layout_of f
+  pub no_cdb : section_at f 0 1024 ≡ None → None ≡ layout_of f
   unfolding layout_of
   no_cdb b = rw b
 
-  module _ (cdb : Part) (e : section_at f 0 1024 ≡ Section.At cdb) where
-    pub no_out : section_at f (end cdb) 8192 ≡ Section.Bad → Layout.Bad ≡ layout_of f
+  module _ (cdb : Part) (e : section_at f 0 1024 ≡ Some cdb) where
+    pub no_out : section_at f (end cdb) 8192 ≡ None → None ≡ layout_of f
     unfolding layout_of
     no_out b = rw (e, b)
 
-    module _ (out : Part) (g : section_at f (end cdb) 8192 ≡ Section.At out) where
-      pub no_record : section_at f (end out) 38 ≡ Section.Bad → Layout.Bad ≡ layout_of f
+    module _ (out : Part) (g : section_at f (end cdb) 8192 ≡ Some out) where
+      pub no_record : section_at f (end out) 38 ≡ None → None ≡ layout_of f
       unfolding layout_of
       no_record b = rw (e, g, b)
 
-      module _ (on : Part) (h : section_at f (end out) 38 ≡ Section.At on) where
-        pub no_slice : section_at f (end on) 16384 ≡ Section.Bad → Layout.Bad ≡ layout_of f
+      module _ (on : Part) (h : section_at f (end out) 38 ≡ Some on) where
+        pub no_slice : section_at f (end on) 16384 ≡ None → None ≡ layout_of f
         unfolding layout_of
         no_slice b = rw (e, g, h, b)
 
-        module _ (slice : Part) (k : section_at f (end on) 16384 ≡ Section.At slice) where
-          pub other_size : (on.size ≡ 38 → ⊥) → Layout.Bad ≡ layout_of f
+        module _ (slice : Part) (k : section_at f (end on) 16384 ≡ Some slice) where
+          pub other_size : (on.size ≡ 38 → ⊥) → None ≡ layout_of f
           unfolding layout_of
           other_size n = rw (e, g, h, k, ne_eqb _ _ n)
 
-          pub goes_on : on.size ≡ 38 → (end slice ≡ length f → ⊥) → Layout.Bad ≡ layout_of f
+          pub goes_on : on.size ≡ 38 → (end slice ≡ length f → ⊥) → None ≡ layout_of f
           unfolding layout_of
           goes_on s n = rw (e, g, h, k, eq-eqb _ _ s, ne_eqb _ _ n)
 
           pub sound : on.size ≡ 38 → end slice ≡ length f
-              → Layout.Sound (record { cdb = cdb; out = out; on = on; slice = slice }) ≡ layout_of f
+              → Some (record { cdb = cdb; out = out; on = on; slice = slice }) ≡ layout_of f
           unfolding layout_of
           sound s n = rw (e, g, h, k, eq-eqb _ _ s, eq-eqb _ _ n)
 
 -- a sound layout has met each of its sections
-record Met (s : Section) (next : Part → Layout) (l : Sections) : Type 0 where
+record Met (s : Option Part) (next : Part → Option Sections) (l : Sections) : Type 0 where
   found : Part
-  is : s ≡ Section.At found
-  rest : next found ≡ Layout.Sound l
+  is : s ≡ Some found
+  rest : next found ≡ Some l
 
-met : (s : Section) (next : Part → Layout) (l : Sections) → followed s next ≡ Layout.Sound l → Met s next l
-met Section.Bad next l e = let z : ◌≡◌ {A = ℕ} 0 1 = cc in absurd (omega arith)
-met (Section.At p) next l e = record { found = p; is = refl; rest = e }
+met : (s : Option Part) (next : Part → Option Sections) (l : Sections) → followed s next ≡ Some l → Met s next l
+met None next l e = let z : ◌≡◌ {A = ℕ} 0 1 = cc in absurd (omega arith)
+met (Some p) next l e = record { found = p; is = refl; rest = e }
 
-settled : (b : Bool) (k l : Sections) → cond b (Layout.Sound k) Layout.Bad ≡ Layout.Sound l → (b ≡ true) × (k ≡ l)
+settled : (b : Bool) (k l : Sections) → then_some b k ≡ Some l → (b ≡ true) × (k ≡ l)
 settled true k l e = (refl, (cc))
 settled false k l e = let z : ◌≡◌ {A = ℕ} 0 1 = cc in absurd (omega arith)
 
-pub sound_inside : (f : Bytes) (l : Sections) → layout_of f ≡ Layout.Sound l → Inside f l
+pub sound_inside : (f : Bytes) (l : Sections) → layout_of f ≡ Some l → Inside f l
 unfolding layout_of
 sound_inside f l e =
     let cdb = met _ _ l e in

@@ -1,38 +1,34 @@
 -- The file that the program `bench` reads (document 01): CDB, Data-Out, record and object slice, each after its four-byte count.
-use Rattle.std.specs.Prelude.{ℕ, ◌+◌, ◌≤◌, ◌≡◌, cond, ◌&&◌, length, eqb, leb}
+use Rattle.std.specs.Prelude.{ℕ, ◌+◌, ◌≤◌, ◌≡◌, ◌&&◌, length, eqb, leb, Option, Some, None}
+use Rattle.std.specs.Bool.{then_some}
 use Rattle.rules.specs.declared.Part.{Part}
 use Rattle.rules.specs.declared.Record.{Record}
 use Rattle.rules.specs.Bytes.{Bytes, part, field}
-use Rattle.callfile.specs.declared.Section.{Section}
 use Rattle.callfile.specs.declared.Sections.{Sections}
-use Rattle.callfile.specs.declared.Layout.{Layout}
 
 -- The section whose count stands at `at`: all four bytes of it are there, it is at most `most`, and so many bytes follow it.
-unfoldable pub section_at : (file : Bytes) → (at most : ℕ) → Section
+unfoldable pub section_at : (file : Bytes) → (at most : ℕ) → Option Part
 section_at f at most =
-    cond (leb (at + 4) (length f) && leb (field at 4 f) most && leb (at + 4 + field at 4 f) (length f))
-    (Section.At (record { at = at + 4; size = field at 4 f }))
-    Section.Bad
+    then_some (leb (at + 4) (length f) && leb (field at 4 f) most && leb (at + 4 + field at 4 f) (length f))
+    (record { at = at + 4; size = field at 4 f })
 
 -- where a section ends, and the next one's count stands
 abbrev pub end : Part → ℕ
 end p = p.at + p.size
 
 -- a bad section makes a bad file; behind a good one the file is read on
-abbrev pub followed : Section → (Part → Layout) → Layout
-followed Section.Bad next = Layout.Bad
-followed (Section.At p) next = next p
+abbrev pub followed : Option Part → (Part → Option Sections) → Option Sections
+followed None next = None
+followed (Some p) next = next p
 
 -- The record has 38 bytes, no more and no fewer, and the file ends with the slice.
-unfoldable pub layout_of : (file : Bytes) → Layout
+unfoldable pub layout_of : (file : Bytes) → Option Sections
 layout_of f =
     followed (section_at f 0 1024) (λ (cdb : Part).
     followed (section_at f (end cdb) 8192) (λ (out : Part).
     followed (section_at f (end out) 38) (λ (on : Part).
     followed (section_at f (end on) 16384) (λ (slice : Part).
-    cond (eqb on.size 38 && eqb (end slice) (length f))
-    (Layout.Sound (record { cdb = cdb; out = out; on = on; slice = slice }))
-    Layout.Bad))))
+    then_some (eqb on.size 38 && eqb (end slice) (length f)) (record { cdb = cdb; out = out; on = on; slice = slice })))))
 
 -- a section's bytes
 abbrev pub bytes_of : (file : Bytes) → Part → Bytes

@@ -9,13 +9,6 @@ ghost use Rattle.callfile.specs.Told.{line_of, hex_digit, code_text};
 
 use rules::{Answer, Part, Record};
 
-// Where a section's bytes stand, behind its count.
-#[derive(Clone, Copy)]
-enum Section {
-    Bad,
-    At(Part),
-}
-
 #[derive(Clone, Copy)]
 pub struct Sections {
     pub cdb: Part,
@@ -24,62 +17,32 @@ pub struct Sections {
     pub slice: Part,
 }
 
-#[derive(Clone, Copy)]
-pub enum Layout {
-    Bad,
-    Sound(Sections),
-}
-
-// Counts are compared with what is left of the file, so that no sum can wrap.
+// Where a section's bytes stand, behind its count; none if it isn't whole, or longer than `most`.
 #[tactic(auto, using(crate::proofs::Layouts::sections))]
-fn section_at(file: &[u8], at: usize, most: usize) -> Section
+fn section_at(file: &[u8], at: usize, most: usize) -> Option<Part>
     requires { at ≤ length file.now }
     ensures { result ≡ section_at file.now at most }
 {
-    let left = file.len() - at;
-    if left < 4 {
-        return Section::Bad;
-    }
-    let count = wire::get32(file, at) as usize;
-    if most < count {
-        return Section::Bad;
-    }
-    if left - 4 < count {
-        return Section::Bad;
-    }
-    Section::At(Part {
-        at: at + 4,
-        size: count,
-    })
+    let left = (file.len() - at).checked_sub(4)?;
+    let size = wire::get32(file, at) as usize;
+    let fits = size <= most && size <= left;
+    fits.then_some(Part { at: at + 4, size })
 }
 
 #[tactic(auto, using(crate::proofs::Layouts::layouts))]
-pub fn layout_of(file: &[u8]) -> Layout
+pub fn layout_of(file: &[u8]) -> Option<Sections>
     ensures { result ≡ layout_of file.now }
 {
-    let Section::At(cdb) = section_at(file, 0, 1024) else {
-        return Layout::Bad;
-    };
-    let Section::At(out) = section_at(file, cdb.at + cdb.size, 8192) else {
-        return Layout::Bad;
-    };
-    let Section::At(on) = section_at(file, out.at + out.size, 38) else {
-        return Layout::Bad;
-    };
-    let Section::At(slice) = section_at(file, on.at + on.size, 16384) else {
-        return Layout::Bad;
-    };
-    if on.size != 38 {
-        return Layout::Bad;
-    }
-    if slice.at + slice.size != file.len() {
-        return Layout::Bad;
-    }
-    Layout::Sound(Sections {
-        cdb: cdb,
-        out: out,
-        on: on,
-        slice: slice,
+    let cdb = section_at(file, 0, 1024)?;
+    let out = section_at(file, cdb.at + cdb.size, 8192)?;
+    let on = section_at(file, out.at + out.size, 38)?;
+    let slice = section_at(file, on.at + on.size, 16384)?;
+    let sound = on.size == 38 && slice.at + slice.size == file.len();
+    sound.then_some(Sections {
+        cdb,
+        out,
+        on,
+        slice,
     })
 }
 
