@@ -1,6 +1,7 @@
--- The answer to a sound file, and the line that tells it.
+-- The answer to a sound file.
 use Prim.Native.Nat.{◌-◌, ◌≤◌}
-use mathlib.Core.Path.{◌≡◌, refl, ap}
+use mathlib.Core.Path.{◌≡◌, refl, ap, sym}
+use Rattle.std.specs.Prelude.{Some}
 use native.Mathlib.Nat.{add-sub_cancel_left}
 use native.Mathlib.Omega.{arith}
 use lib.ListN.{length, take, drop, length-take, length-drop}
@@ -14,12 +15,9 @@ use Rattle.rules.specs.Answer.{answered, Answered}
 use Rattle.header.specs.Reading.{command}
 use Rattle.engine.specs.Promise.{whole}
 use Rattle.callfile.specs.declared.Sections.{Sections}
-use Rattle.callfile.specs.declared.Layout.{Layout}
-use Rattle.callfile.specs.File.{end, layout_of, bytes_of, record_of}
-use Rattle.callfile.specs.declared.Line.{Line}
-use Rattle.callfile.specs.Told.{line_of}
-use Rattle.bench.specs.declared.Reply.{Reply}
-use Rattle.bench.specs.Reply.{answer_to, reply_to}
+use Rattle.callfile.specs.File.{end, layout_of, bytes_of, record_of, Inside}
+use Rattle.callfile.proofs.Layouts.{sound_inside}
+use Rattle.bench.specs.Reply.{answer_to}
 
 -- the bytes copied to a buffer's start are those lent
 pub copied : (s z t : Bytes) → t ≡ laid 0 (part 0 (length s) s) z → take (length s) t ≡ s
@@ -42,10 +40,5 @@ pub answer_told : (f : Bytes) (s : Sections) (cdb out on slice : Bytes) (r : Rec
 unfolding answer_to
 answer_told f s cdb out on slice r a e g h k m n = rw (m, e, g, h, k) at n
 
-pub bad_file : (f : Bytes) → layout_of f ≡ Layout.Bad → Reply.BadFile ≡ reply_to f
-unfolding reply_to
-bad_file f e = rw e
-
-pub told : (f : Bytes) (s : Sections) (a : Answer) (l : Line) → layout_of f ≡ Layout.Sound s → a ≡ answer_to f s → l ≡ line_of a → Reply.Told l ≡ reply_to f
-unfolding reply_to
-told f s a l e g h = rw (e, h, g)
+pub sections_inside : (f : Bytes) (s : Sections) → Some s ≡ layout_of f → Inside f s
+sections_inside f s e = sound_inside f s (sym e)

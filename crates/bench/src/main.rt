@@ -10,16 +10,10 @@ ghost use Rattle.header.specs.Reading.{command};
 ghost use Rattle.callfile.specs.File.{end, bytes_of, Inside};
 ghost use Rattle.bench.specs.Reply.{answer_to, reply_to};
 
-use callfile::{Layout, Line, Sections};
+use callfile::{Line, Sections};
 use rules::{Answer, Part, Record};
 use std::io;
-use std::io::{Read, Write};
-
-#[derive(Clone, Copy)]
-enum Reply {
-    BadFile,
-    Told(Line),
-}
+use std::io::Read;
 
 // The file is only read, so the engine is lent a copy of the object slice.
 fn carry_out(cdb: &[u8], out: &[u8], on: Record, slice: &[u8]) -> Answer
@@ -37,9 +31,7 @@ fn bytes_of(file: &[u8], section: Part) -> &[u8]
     requires { end section ≤ length file.now }
     ensures { result.now ≡ bytes_of file.now section }
 {
-    let at = section.at;
-    let end = at + section.size;
-    &file[at..end]
+    &file[section.at..section.at + section.size]
 }
 
 fn answer_to(file: &[u8], sections: Sections) -> Answer
@@ -55,32 +47,18 @@ fn answer_to(file: &[u8], sections: Sections) -> Answer
     )
 }
 
-fn reply_to(file: &[u8]) -> Reply
+#[tactic(auto, using(crate::proofs::Replies::sections_inside), unfolding(crate::specs::Reply::reply_to))]
+fn reply_to(file: &[u8]) -> Option<Line>
     ensures { result ≡ reply_to file.now }
 {
-    let Layout::Sound(sections) = callfile::layout_of(file) else {
-        return Reply::BadFile;
-    };
-    Reply::Told(callfile::line_of(answer_to(file, sections)))
+    let sections = callfile::layout_of(file)?;
+    Some(callfile::line_of(answer_to(file, sections)))
 }
 
-fn print_line(rt: &HostRuntime, line: Line) -> io::Result<()> {
-    let Line {
-        number,
-        key,
-        code,
-        count,
-        length,
-    } = line;
-    print!(rt; "{number} {key} ")?;
-    rt.stdout().write_all(&callfile::code_text(code))?;
-    println!(rt; " {count} {length}")
-}
-
-fn print_reply(rt: &HostRuntime, reply: Reply) -> io::Result<()> {
+fn print_reply(rt: &HostRuntime, reply: Option<Line>) -> io::Result<()> {
     match reply {
-        Reply::BadFile => println!(rt; "bad file"),
-        Reply::Told(line) => print_line(rt, line),
+        Some(line) => println!(rt; "{line}"),
+        None => println!(rt; "bad file"),
     }
 }
 

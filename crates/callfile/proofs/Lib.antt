@@ -1,2 +1,3 @@
+pub mod Codes
+pub mod Digits
 pub mod Layouts
-pub mod Lines

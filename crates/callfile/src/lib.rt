@@ -3,11 +3,12 @@
 
 #![tactic(auto)]
 
-ghost use Rattle.std.specs.Prelude.{◌≡◌, ◌≤◌, ◌<◌, length};
+ghost use Rattle.std.specs.Prelude.{◌≡◌, ◌≤◌, length, Some};
 ghost use Rattle.callfile.specs.File.{section_at, layout_of, record_of};
-ghost use Rattle.callfile.specs.Told.{line_of, hex_digit, code_text};
+ghost use Rattle.callfile.specs.Told.{line_of, line_text};
 
 use rules::{Answer, Part, Record};
+use std::fmt;
 
 #[derive(Clone, Copy)]
 pub struct Sections {
@@ -18,7 +19,7 @@ pub struct Sections {
 }
 
 // Where a section's bytes stand, behind its count; none if it isn't whole, or longer than `most`.
-#[tactic(auto, using(crate::proofs::Layouts::sections))]
+#[tactic(auto, unfolding(crate::specs::File::section_at))]
 fn section_at(file: &[u8], at: usize, most: usize) -> Option<Part>
     requires { at ≤ length file.now }
     ensures { result ≡ section_at file.now at most }
@@ -29,7 +30,7 @@ fn section_at(file: &[u8], at: usize, most: usize) -> Option<Part>
     fits.then_some(Part { at: at + 4, size })
 }
 
-#[tactic(auto, using(crate::proofs::Layouts::layouts))]
+#[tactic(auto, using(crate::proofs::Layouts::inside), unfolding(crate::specs::File::layout_of))]
 pub fn layout_of(file: &[u8]) -> Option<Sections>
     ensures { result ≡ layout_of file.now }
 {
@@ -46,62 +47,57 @@ pub fn layout_of(file: &[u8]) -> Option<Sections>
     })
 }
 
-pub fn record_of(s: &[u8]) -> Record
-    requires { length s.now ≡ 38 }
-    ensures { result ≡ record_of s.now }
+#[tactic(auto, unfolding(crate::specs::File::record_of))]
+pub fn record_of(bytes: &[u8]) -> Record
+    requires { length bytes.now ≡ 38 }
+    ensures { result ≡ record_of bytes.now }
 {
     Record {
-        partition: wire::get64(s, 0),
-        object: wire::get64(s, 8),
-        length: wire::get64(s, 16),
-        maximum: wire::get64(s, 24),
-        tag: wire::get32(s, 32),
-        epoch: wire::get16(s, 36),
+        partition: wire::get64(bytes, 0),
+        object: wire::get64(bytes, 8),
+        length: wire::get64(bytes, 16),
+        maximum: wire::get64(bytes, 24),
+        tag: wire::get32(bytes, 32),
+        epoch: wire::get16(bytes, 36),
     }
 }
 
-// What is printed of an answer.
+// What is printed of an answer. A sense code has two bytes.
 #[derive(Clone, Copy)]
 pub struct Line {
     pub number: u32,
     pub key: u32,
-    pub code: u32,
+    pub code: u16,
     pub count: u64,
     pub length: u64,
 }
 
+#[tactic(auto, using(crate::proofs::Codes::two_bytes), unfolding(crate::specs::Told::line_of))]
 pub fn line_of(answer: Answer) -> Line
     ensures { result ≡ line_of answer }
 {
-    let outcome = answer.outcome;
-    let next = answer.next;
-    let number = numbers::number_of(outcome);
+    let number = numbers::number_of(answer.outcome);
     Line {
-        number: number,
+        number,
         key: numbers::sense_key(number),
-        code: numbers::sense_code(number),
+        code: numbers::sense_code(number) as u16,
         count: answer.count,
-        length: next.length,
+        length: answer.next.length,
     }
 }
 
-fn hex_digit(d: u32) -> u8
-    requires { d < 16 }
-    ensures { result ≡ hex_digit d }
-{
-    if d < 10 {
-        return b'0' + d as u8;
-    }
-    b'A' - 10 + d as u8
-}
+impl fmt::Display for Line {
+    ghost output = { λ line. Some (line_text line) };
 
-pub fn code_text(code: u32) -> [u8; 4]
-    ensures { result ≡ code_text code }
-{
-    [
-        hex_digit(code / 4096 % 16),
-        hex_digit(code / 256 % 16),
-        hex_digit(code / 16 % 16),
-        hex_digit(code % 16),
-    ]
+    #[tactic(auto, using(crate::proofs::Digits::printed))]
+    fn fmt<W: fmt::Write>(&self, f: &mut fmt::Formatter<W>) -> fmt::Result {
+        let Line {
+            number,
+            key,
+            code,
+            count,
+            length,
+        } = *self;
+        write!(f, "{number} {key} {code:04X} {count} {length}")
+    }
 }
