@@ -22,9 +22,9 @@ fn carry_out(cdb: &[u8], out: &[u8], on: Record, slice: &[u8]) -> Answer
 {
     let mut lent = [0u8; 16384];
     let mut input = [0u8; 4096];
-    let size = slice.len();
-    movers::copy(slice, 0, size, &mut lent, 0);
-    engine::execute(cdb, out, on, &mut lent[..size], &mut input)
+    let lent = &mut lent[..slice.len()];
+    lent.copy_from_slice(slice);
+    engine::execute(cdb, out, on, lent, &mut input)
 }
 
 fn bytes_of(file: &[u8], section: Part) -> &[u8]
@@ -34,6 +34,7 @@ fn bytes_of(file: &[u8], section: Part) -> &[u8]
     &file[section.at..section.at + section.size]
 }
 
+#[tactic(auto, unfolding(crate::specs::Reply::answer_to))]
 fn answer_to(file: &[u8], sections: Sections) -> Answer
     requires { Inside file.now sections }
     ensures { result ≡ answer_to file.now sections }
