@@ -178,7 +178,7 @@ fn put_segment(segment: &mut [u8], request: Request)
 
 // ---- the request
 
-#[tactic(auto, unfolding(rules::specs::Command::verb_of, rules::specs::Tests::first_of))]
+#[tactic(auto, using(rules::proofs::Verbs::read_where_some))]
 fn known(action: u64) -> bool
     ensures { result ≡ is_some (verb_of action) }
 {

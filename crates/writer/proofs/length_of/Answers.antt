@@ -12,7 +12,7 @@ pub returns : goal.returns
 returns c =
     let r = c.args.request in
     let l = c.in-Some.list in
-    passes r l c.in-Some.is (search rules) (search rules) (search rules) (search rules) (search rules) c.in-Fits.ensures
+    passes r l c.in-Some.is (search rules) (search rules) (search rules) (search rules) (search rules) c.in_ok-total.ensures
     (elim c.else-request-eq-WRITE.branch [
       | else-request-eq-WRITE-via-then-request-eq-WRITE+else-overlap w ↦
           apart r l c.in-Some.is (search rules) w.overlap.ensures w.if-overlap.false
