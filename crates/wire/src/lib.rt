@@ -1,79 +1,63 @@
-// Big-endian numbers in byte slices, read and written. A number is read without a loop, each byte with its own weight: of such a
-// sum the compiler makes one load. It is written by one loop for any width.
+// Big-endian numbers in byte slices, read and written.
 
 #![tactic(auto)]
 
-ghost use Rattle.std.specs.Prelude.{◌≡◌, ◌+◌, ◌<◌, ◌≤◌, ◌^◌, length};
-ghost use Rattle.rules.specs.Bytes.{field, laid, to_be};
+ghost use Rattle.std.specs.Prelude.{◌≡◌, ◌+◌, ◌≤◌, length};
+ghost use Rattle.rules.specs.Bytes.{part, field, laid, to_be};
 
-// a byte as a wider number
-fn wide(x: u8) -> u64
-    ensures { (result ≡ x) × (result < 256) }
+// the N bytes from `at` on
+fn bytes_at<const N: usize>(s: &[u8], at: usize) -> [u8; N]
+    requires { at + N ≤ length s.now }
+    ensures { result ≡ part at N s.now }
 {
-    x as u64
+    *s[at..].first_chunk().unwrap()
 }
 
+// N bytes laid over d from `at` on
+#[tactic(auto, unfolding(rules::specs::Bytes::laid))]
+fn put_bytes<const N: usize>(d: &mut [u8], at: usize, bytes: [u8; N])
+    requires { at + N ≤ length d.old }
+    ensures { d.new ≡ laid at bytes.entry d.old }
+{
+    d[at..at + N].copy_from_slice(&bytes);
+}
+
+#[tactic(auto, using(crate::proofs::Digits::number_at))]
 pub fn get16(s: &[u8], at: usize) -> u16
     requires { at + 2 ≤ length s.now }
     ensures { result ≡ field at 2 s.now }
 {
-    let high = wide(s[at]);
-    let low = wide(s[at + 1]);
-    (high * 256 + low) as u16
+    u16::from_be_bytes(bytes_at(s, at))
 }
 
-// Four bytes, in a number wide enough for eight: a sum that is cut to 32 bits halfway isn't made one load.
-fn four(s: &[u8], at: usize) -> u64
-    requires { at + 4 ≤ length s.now }
-    ensures { (result ≡ field at 4 s.now) × (result < 2 ^ 32) }
-{
-    let first = wide(s[at]);
-    let second = wide(s[at + 1]);
-    let third = wide(s[at + 2]);
-    let last = wide(s[at + 3]);
-    first * 16777216 + second * 65536 + third * 256 + last
-}
-
+#[tactic(auto, using(crate::proofs::Digits::number_at))]
 pub fn get32(s: &[u8], at: usize) -> u32
     requires { at + 4 ≤ length s.now }
     ensures { result ≡ field at 4 s.now }
 {
-    four(s, at) as u32
+    u32::from_be_bytes(bytes_at(s, at))
 }
 
+#[tactic(auto, using(crate::proofs::Digits::number_at))]
 pub fn get64(s: &[u8], at: usize) -> u64
     requires { at + 8 ≤ length s.now }
     ensures { result ≡ field at 8 s.now }
 {
-    let high = four(s, at);
-    let low = four(s, at + 4);
-    high * 4294967296 + low
+    u64::from_be_bytes(bytes_at(s, at))
 }
 
-// From the last byte to the first: what is left of the number is always the bytes still to come.
-fn put(d: &mut [u8], at: usize, n: usize, x: u64)
-    requires { at + n ≤ length d.old }
-    ensures { d.new ≡ laid at (to_be n x) d.old }
-{
-    let mut y = x;
-    let mut i = n;
-    while 0 < i {
-        i -= 1;
-        d[at + i] = (y % 256) as u8;
-        y = y / 256;
-    }
-}
-
+#[tactic(auto, using(crate::proofs::Digits::high_bytes))]
 pub fn put32(d: &mut [u8], at: usize, x: u32)
     requires { at + 4 ≤ length d.old }
     ensures { d.new ≡ laid at (to_be 4 x) d.old }
 {
-    put(d, at, 4, x as u64);
+    put_bytes(d, at, u32::to_be_bytes(x));
 }
 
+#[tactic(auto, using(crate::proofs::Digits::high_bytes))]
 pub fn put64(d: &mut [u8], at: usize, x: u64)
     requires { at + 8 ≤ length d.old }
     ensures { d.new ≡ laid at (to_be 8 x) d.old }
 {
-    put(d, at, 8, x);
+    put_bytes(d, at, u64::to_be_bytes(x));
 }
