@@ -16,7 +16,8 @@ worth zero b = omega arith
 worth (suc j) b = refl
 
 -- the first k + 1 of n bytes, each at its weight
-front : (n k : ℕ) (s : Bytes) → k < n → n ≤ length s → sum_through (λ i. byte_worth (n - 1 - i) (get_or s i 0)) k ≡ field 0 (k + 1) s * 256 ^ (n - 1 - k)
+front : (n k : ℕ) (s : Bytes) → k < n → n ≤ length s
+    → sum_through (λ i. byte_worth (n - 1 - i) (get_or s i 0)) k ≡ field 0 (k + 1) s * 256 ^ (n - 1 - k)
 front n zero s h l =
     let first : 0 * 256 + get_or s 0 0 ≡ field 0 1 s = field_more 0 0 s 0 (get_or s 0 0) (omega arith) (sym (field_none 0 s)) refl in
     let same : get_or s 0 0 ≡ field 0 1 s = omega (arith, first) in

@@ -10,7 +10,9 @@ fn bytes_at<const N: usize>(s: &[u8], at: usize) -> [u8; N]
     requires { at + N ≤ length s.now }
     ensures { result ≡ part at N s.now }
 {
-    *s[at..].first_chunk().unwrap()
+    let mut bytes = [0; N];
+    bytes.copy_from_slice(&s[at..at + N]);
+    bytes
 }
 
 // N bytes laid over d from `at` on
