@@ -47,10 +47,7 @@ pub fn move_down(s: &mut [u8], from: usize, n: usize, to: usize)
     requires { (to ≤ from) × (from + n ≤ length s.old) }
     ensures { s.new ≡ laid to (part from n s.old) s.old }
 {
-    let mut done = 0;
-    while done < n {
-        let size = BLOCK.min(n - done);
-        move_block(s, from + done, size, to + done);
-        done += size;
+    for done in (0..n).step_by(BLOCK) {
+        move_block(s, from + done, BLOCK.min(n - done), to + done);
     }
 }
