@@ -7,7 +7,7 @@ use Rattle.rules.specs.Numbers.{number}
 use Rattle.rules.specs.Answer.{Answered}
 use Rattle.rules.specs.Writer.{written}
 use Rattle.question.specs.declared.Place.{Place}
-use Rattle.std.specs.Prelude.{Bool, Result}
+use Rattle.std.specs.Prelude.{Bool, Option, Result}
 use Rattle.std.specs.Bool.{then_some}
 use Rattle.writer.specs.declared.List.{List as Listing}
 use Rattle.writer.specs.declared.Request.{Request as Asked}
@@ -24,7 +24,7 @@ pub seen_as : (a : Answer) (s i : Bytes) (k : ℕ) (due : Answered) → whole a 
 seen_as a s i k due e f = rw f (ap seen_of e)
 
 -- v is the place w that was told, taken apart
-pub told_as : (p w v : Place) → w ≡ p → w ≡ v → Told p (lent_by v) (offset_in v)
+pub told_as : (p w v : Option Place) → w ≡ p → w ≡ v → Told p (lent_by v) (offset_in v)
 told_as p w v e f = record { lent = ap lent_by (sym f ∙ e); offset = ap offset_in (sym f ∙ e) }
 
 -- the list l is there under a flag

@@ -1,5 +1,5 @@
 -- What C is told and what is left in its memory, by the book's answers.
-use Rattle.std.specs.Prelude.{ℕ, ◌≡◌}
+use Rattle.std.specs.Prelude.{ℕ, ◌≡◌, Option, None, Some}
 use Rattle.rules.specs.declared.Record.{Record}
 use Rattle.rules.specs.declared.Range.{Range}
 use Rattle.rules.specs.Bytes.{Bytes}
@@ -7,7 +7,7 @@ use Rattle.rules.specs.Numbers.{number}
 use Rattle.rules.specs.Answer.{Answered}
 use Rattle.rules.specs.Writer.{Written}
 use Rattle.question.specs.declared.Place.{Place}
-use Rattle.question.specs.declared.Place.TheVariants.{Nowhere, InCdb, InOut}
+use Rattle.question.specs.declared.Place.TheVariants.{InCdb, InOut}
 
 -- the record and a range, as they come in
 abbrev pub record_of : (partition object logical maximum tag epoch : ℕ) → Record
@@ -31,17 +31,17 @@ abbrev pub seen_of : Answered → Seen
 seen_of a = seen (number a.answer.outcome) a.answer.count a.answer.next.length a.slice a.input
 
 -- ---- the admission question: 0 for none, 1 for the CDB's capability, which stands there at 80, 2 for one in Data-Out
-abbrev pub lent_by : Place → ℕ
-lent_by Nowhere = 0
-lent_by InCdb = 1
-lent_by (InOut at) = 2
+abbrev pub lent_by : Option Place → ℕ
+lent_by None = 0
+lent_by (Some InCdb) = 1
+lent_by (Some (InOut at)) = 2
 
-abbrev pub offset_in : Place → ℕ
-offset_in Nowhere = 0
-offset_in InCdb = 80
-offset_in (InOut at) = at
+abbrev pub offset_in : Option Place → ℕ
+offset_in None = 0
+offset_in (Some InCdb) = 80
+offset_in (Some (InOut at)) = at
 
-pub record Told (p : Place) (answer at : ℕ) : Type 0 where
+pub record Told (p : Option Place) (answer at : ℕ) : Type 0 where
   pub lent : answer ≡ lent_by p
   pub offset : at ≡ offset_in p
 

@@ -46,11 +46,9 @@ pub fn holmweder_execute(
         epoch,
     };
     let answer = engine::execute(cdb, out, on, slice, input);
-    let next = answer.next;
-    let outcome = answer.outcome;
     *count = answer.count;
-    *next_length = next.length;
-    numbers::number_of(outcome)
+    *next_length = answer.next.length;
+    numbers::number_of(answer.outcome)
 }
 
 // Which capability of a command admits a range: whose it is, and where its 104 bytes stand there.
@@ -79,21 +77,13 @@ pub fn holmweder_admission(
         tag,
         epoch,
     };
-    let place = question::place_that_admits(cdb, out, on, Range { start, size });
-    match place {
-        Place::Nowhere => {
-            *offset = 0;
-            return 0;
-        }
-        Place::InCdb => {
-            *offset = 80;
-            return 1;
-        }
-        Place::InOut(at) => {
-            *offset = at as u64;
-            return 2;
-        }
-    }
+    let (whose, at) = match question::place_that_admits(cdb, out, on, Range { start, size }) {
+        None => (0, 0),
+        Some(Place::InCdb) => (1, 80),
+        Some(Place::InOut(at)) => (2, at as u64),
+    };
+    *offset = at;
+    whose
 }
 
 pub fn holmweder_sense_key(number: u32) -> u32

@@ -10,8 +10,7 @@ const MOST_THEOREMS: usize = 60;
 
 const OPENING: &str = "\
 -- What is looked at of an answer. Every definition of the book is open here.
-use Rattle.std.specs.Prelude.{ℕ}
-use Rattle.std.proofs.Math.Option.{Option, none, some}
+use Rattle.std.specs.Prelude.{ℕ, Option, None, Some}
 use Rattle.rules.specs.declared.Record.{Record}
 use Rattle.rules.specs.declared.Refusal.{Refusal}
 MODULES
@@ -42,20 +41,16 @@ seen a =
     }
 
 abbrev pub refusing : Option Refusal → ℕ
-refusing none = 0
-refusing (some r) = row r
+refusing None = 0
+refusing (Some r) = row r
 ";
 
 const HEAD: &str = "\
-use Rattle.std.specs.Prelude.{ℕ, ◌≡◌, refl, true, false, List, [], ◌∷◌, replicate}
-use Rattle.std.proofs.Math.Option.{Option, none, some}
+use Rattle.std.specs.Prelude.{ℕ, ◌≡◌, refl, true, false, List, [], ◌∷◌, replicate, Option, None, Some, Ok, Err}
 use Rattle.rules.specs.declared.Cause.TheVariants.{Unknown, Over, Padding, Misfit, Past, Repeated, Remainder}
-use Rattle.rules.specs.declared.Spot.TheVariants.{Absent, At}
-use Rattle.rules.specs.declared.Walk.{Walk}
-use Rattle.rules.specs.declared.Walk.TheVariants.{Whole, Broken}
 use Rattle.rules.specs.Bytes.{Bytes}
 use Rattle.rules.specs.Command.{Command}
-use Rattle.rules.specs.Segment.{walk}
+use Rattle.rules.specs.Segment.{Walk, walk, fault}
 use Rattle.rules.specs.Reading.{in_cdb, in_out, Held}
 use Rattle.rules.specs.Admission.{question}
 use Rattle.rules.specs.Rows.{refusal}

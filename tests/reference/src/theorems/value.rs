@@ -54,35 +54,35 @@ pub fn status(status: Status) -> &'static str {
     }
 }
 
-/// A capability as its bytes and the place where they stand; none where no capability admits.
+/// A capability as its bytes and the place where they stand; `None` where no capability admits.
 pub fn held(place: Option<Place>, cdb: &[u8], out: &[u8]) -> String {
     let Some(place) = place else {
-        return "none".to_string();
+        return "None".to_string();
     };
     let (lent, at) = match place {
         Place::Cdb => ("in_cdb", CAPABILITY_AT),
         Place::Segment(offset) => ("in_out", offset),
     };
     let bytes = list(place.bytes(cdb, out));
-    format!("(some (record {{ lent = {lent}; at = {at}; bytes = {bytes} }}))")
+    format!("(Some (record {{ lent = {lent}; at = {at}; bytes = {bytes} }}))")
 }
 
 pub fn walk(walk: Result<Contents, Fault>) -> String {
     match walk {
         Ok(contents) => format!(
-            "(Whole (record {{ list = {}; extension = {} }}))",
+            "(Ok (record {{ list = {}; extension = {} }}))",
             spot(contents.list),
             spot(contents.extension),
         ),
-        Err(fault) => format!("(Broken {} {})", cause(fault.cause), fault.offset),
+        Err(fault) => format!("(Err (fault {} {}))", cause(fault.cause), fault.offset),
     }
 }
 
 fn spot(descriptor: Option<Descriptor>) -> String {
     match descriptor {
-        None => "Absent".to_string(),
+        None => "None".to_string(),
         Some(descriptor) => format!(
-            "At (record {{ at = {}; size = {} }})",
+            "Some (record {{ at = {}; size = {} }})",
             descriptor.data_at, descriptor.data_length
         ),
     }
