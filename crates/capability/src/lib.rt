@@ -21,55 +21,59 @@ pub struct Sought {
     pub epoch: u16,
 }
 
-#[tactic(auto, unfolding(rules::specs::Capability::permits))]
-fn permits_verb(k: &[u8], verb: Verb) -> bool
-    requires { 104 ≤ length k.now }
-    ensures { result ≡ permits verb k.now }
-{
-    let permissions = k[49];
-    match verb {
-        Verb::Read => permissions / 128 % 2 == 1,
-        Verb::Write | Verb::Clear | Verb::Punch => permissions / 64 % 2 == 1,
+// A capability where it stands, with whatever stands behind it.
+#[derive(Clone, Copy)]
+struct Terms<'a> {
+    bytes: &'a [u8],
+    ghost whole: { 104 ≤ length bytes.now },
+}
+
+impl<'a> Terms<'a> {
+    #[tactic(auto, unfolding(rules::specs::Capability::permits))]
+    fn permit(self, verb: Verb) -> bool
+        ensures { result ≡ permits verb self.entry.bytes.now }
+    {
+        let permissions = self.bytes[49];
+        match verb {
+            Verb::Read => permissions / 128 % 2 == 1,
+            Verb::Write | Verb::Clear | Verb::Punch => permissions / 64 % 2 == 1,
+        }
     }
-}
 
-#[tactic(auto, unfolding(rules::specs::Capability::for_user_object))]
-fn is_for_user_object(k: &[u8]) -> bool
-    requires { 104 ≤ length k.now }
-    ensures { result ≡ for_user_object k.now }
-{
-    k[48] == 0x80 && k[55] / 16 == 1
-}
+    #[tactic(auto, unfolding(rules::specs::Capability::for_user_object))]
+    fn are_for_user_object(self) -> bool
+        ensures { result ≡ for_user_object self.entry.bytes.now }
+    {
+        self.bytes[48] == 0x80 && self.bytes[55] / 16 == 1
+    }
 
-#[tactic(auto, unfolding(rules::specs::Capability::names))]
-fn names_object(k: &[u8], partition: u64, object: u64) -> bool
-    requires { 104 ≤ length k.now }
-    ensures { result ≡ names partition object k.now }
-{
-    let allowed_partition = wire::get64(k, 72);
-    let allowed_object = wire::get64(k, 80);
-    allowed_partition != 0
-        && allowed_object != 0
-        && allowed_partition == partition
-        && allowed_object == object
-}
+    #[tactic(auto, unfolding(rules::specs::Capability::names))]
+    fn name(self, partition: u64, object: u64) -> bool
+        ensures { result ≡ names partition object self.entry.bytes.now }
+    {
+        let allowed_partition = wire::get64(self.bytes, 72);
+        let allowed_object = wire::get64(self.bytes, 80);
+        allowed_partition != 0
+            && allowed_object != 0
+            && allowed_partition == partition
+            && allowed_object == object
+    }
 
-#[tactic(auto, unfolding(rules::specs::Capability::tagged))]
-fn has_tag(k: &[u8], by: Sought) -> bool
-    requires { 104 ≤ length k.now }
-    ensures { result ≡ tagged (holder by) k.now }
-{
-    let tag = wire::get32(k, 60);
-    tag == 0 || tag == by.tag
-}
+    #[tactic(auto, unfolding(rules::specs::Capability::tagged))]
+    fn have_tag(self, by: Sought) -> bool
+        ensures { result ≡ tagged (holder by) self.entry.bytes.now }
+    {
+        let tag = wire::get32(self.bytes, 60);
+        tag == 0 || tag == by.tag
+    }
 
-#[tactic(auto, unfolding(rules::specs::Capability::current))]
-fn is_current(k: &[u8], by: Sought) -> bool
-    requires { 104 ≤ length k.now }
-    ensures { result ≡ current (holder by) k.now }
-{
-    let epoch = wire::get16(k, 64);
-    epoch == 0 || by.epoch == 0 || epoch == by.epoch
+    #[tactic(auto, unfolding(rules::specs::Capability::current))]
+    fn are_current(self, by: Sought) -> bool
+        ensures { result ≡ current (holder by) self.entry.bytes.now }
+    {
+        let epoch = wire::get16(self.bytes, 64);
+        epoch == 0 || by.epoch == 0 || epoch == by.epoch
+    }
 }
 
 // Whether a capability matches what is sought.
@@ -78,11 +82,12 @@ pub fn is_match(k: &[u8], by: Sought) -> bool
     requires { 104 ≤ length k.now }
     ensures { result ≡ meets by k.now }
 {
-    is_for_user_object(k)
-        && permits_verb(k, by.verb)
-        && names_object(k, by.partition, by.object)
-        && has_tag(k, by)
-        && is_current(k, by)
+    let terms = Terms { bytes: k };
+    terms.are_for_user_object()
+        && terms.permit(by.verb)
+        && terms.name(by.partition, by.object)
+        && terms.have_tag(by)
+        && terms.are_current(by)
 }
 
 // ---- the range that it allows

@@ -11,6 +11,7 @@ use Rattle.rules.specs.Writer.{Written}
 use Rattle.std.specs.Prelude.{ℕ, Result, Ok, Err}
 use Rattle.writer.specs.declared.Unwritten.{Unwritten}
 use Rattle.writer.specs.declared.Unwritten.TheVariants.{NotACommand, BuffersShort}
+use Rattle.segment.specs.Left.{entries_left}
 use Rattle.writer.specs.Post.{number_of, size_of}
 use Rattle.holmweder.specs.Face.{Seen}
 use Rattle.rules.proofs.Record.with_length.Reads as with_length
@@ -30,11 +31,13 @@ use Rattle.numbers.proofs.status_of.Reads as status_of
 use Rattle.segment.proofs.standing_at.Reads as standing_at
 use Rattle.segment.proofs.entry_at.Reads as entry_at
 use Rattle.segment.proofs.step_from.Reads as step_from
+use Rattle.segment.proofs.first_position.Reads as first_position
 use Rattle.segment.proofs.walk_over.Reads as walk_over
-use Rattle.reader.proofs.first_of.Reads as first_of
-use Rattle.reader.proofs.step.Reads as step
-use Rattle.reader.proofs.moved.Reads as moved
-use Rattle.reader.proofs.left_of.Reads as left_of
+use Rattle.segment.proofs.entries_in.Reads as entries_in
+use Rattle.reader.proofs.Reader.first_of.Reads as first_of
+use Rattle.reader.proofs.Reader.step.Reads as step
+use Rattle.reader.proofs.Reader.moved.Reads as moved
+use Rattle.reader.proofs.Reader.left.Reads as left
 use Rattle.reader.proofs.nth_of.Reads as nth_of
 use Rattle.header.proofs.read_front.Reads as read_front
 use Rattle.header.proofs.is_other.Reads as is_other
@@ -144,8 +147,15 @@ one_entry_at κs a r r' s s' e f = e ∙ sym f
 one_step_from : One step_from.Post
 one_step_from κs a r r' s s' e f = e ∙ sym f
 
+one_first_position : One first_position.Post
+one_first_position κs a r r' s s' e f = e ∙ sym f
+
 one_walk_over : One walk_over.Post
 one_walk_over κs a r r' s s' e f = e ∙ sym f
+
+-- two iterators that give the same entries
+one_entries_in : (κs : _) (a : _) (r r' : _) (s s' : _) → entries_in.Post κs a r s → entries_in.Post κs a r' s' → entries_left r ≡ entries_left r'
+one_entries_in κs a r r' s s' e f = e ∙ sym f
 
 -- ---- `reader`: the reader
 one_nth_of : One nth_of.Post
@@ -166,8 +176,8 @@ one_moved : (κs : _) (a : _) (r r' : _) (s s' : _)
     × (r.position ≡ r'.position)
 one_moved κs a r r' s s' e f = (e.0 ∙ sym f.0, e.1 ∙ sym f.1)
 
-one_left_of : One left_of.Post
-one_left_of κs a r r' s s' e f = e ∙ sym f
+one_left : One left.Post
+one_left κs a r r' s s' e f = e ∙ sym f
 
 -- ---- `header`: rows 2 to 8
 one_read_front : One read_front.Post
