@@ -3,9 +3,10 @@
 
 #![tactic(auto)]
 
-ghost use Rattle.std.specs.Prelude.{◌≡◌, ◌≤◌, ◌&&◌, not, eqb, is_some};
+ghost use Rattle.std.specs.Prelude.{◌≡◌, ◌≤◌, ◌&&◌, not, eqb, is_some, Some};
 ghost use Rattle.rules.specs.Ranges.{reach};
-ghost use Rattle.segment.specs.Lying.{ListAt};
+ghost use Rattle.rules.specs.declared.Part.{Part};
+ghost use Rattle.segment.specs.Lying.{ListIn};
 ghost use Rattle.ranges.specs.Asked.{beyond_in};
 ghost use Rattle.ranges.specs.Reached.{within};
 ghost use Rattle.header.specs.Reading.{command};
@@ -24,111 +25,116 @@ pub enum Action {
     Punch(Parsed),
 }
 
-// Row 12's test.
-#[tactic(auto, unfolding(header::specs::Ranges::ranges_in, ranges::specs::Asked::beyond_in, rules::specs::Bytes::any))]
-fn starts_beyond(s: &[u8], said: Parsed, logical: u64) -> bool
-    requires { ListAt s.now said.found.list }
-    ensures { result ≡ beyond_in (ranges_in s.now said) logical }
-{
-    match said.found.list {
-        None => logical < said.start,
-        Some(part) => ranges::starts_beyond_in(s, part, logical),
-    }
-}
-
-#[tactic(auto, unfolding(header::specs::Ranges::ranges_in, ranges::specs::Reached::lifted, rules::specs::Ranges::reach))]
-fn reach_of(s: &[u8], said: Parsed, reached: usize, limit: usize) -> Option<usize>
-    requires { (reached ≤ limit) × ListAt s.now said.found.list }
-    ensures { result ≡ within limit (reach reached (ranges_in s.now said)) }
-{
-    let Parsed { start, size, .. } = said;
-    match said.found.list {
-        None => ranges::reach_more(reached, Range { start, size }, limit),
-        Some(part) => ranges::reach_in(s, part, reached, limit),
-    }
-}
-
-// Row 14: the logical length that WRITE or CLEAR leaves, where there is room for it.
-#[tactic(auto, unfolding(crate::specs::Decisions::room_for, ranges::specs::Reached::within))]
-fn room_for(s: &[u8], said: Parsed, on: Record, slice: usize) -> Option<usize>
-    requires { (on.length ≤ slice) × ListAt s.now said.found.list }
-    ensures { result ≡ room_for on.length on.maximum slice (reach on.length (ranges_in s.now said)) }
-{
-    let raised = reach_of(s, said, on.length as usize, slice)?;
-    if on.length < raised as u64 && on.maximum < raised as u64 {
-        return None;
-    }
-    Some(raised)
-}
-
-// Rows 12 to 14, verb by verb.
-#[tactic(auto, unfolding(crate::specs::Decisions::reads))]
-fn decide_read(s: &[u8], said: Parsed, on: Record, input: usize) -> Result<Action, Refusal>
-    requires { ListAt s.now said.found.list }
-    ensures { result ≡ reads s.now said on.length input }
-{
-    if starts_beyond(s, said, on.length) {
-        return Err(Refusal::StartsBeyond);
-    }
-    if (input as u64) < said.size {
-        return Err(Refusal::BufferShort);
-    }
-    Ok(Action::Read(said))
-}
-
-#[tactic(auto, unfolding(crate::specs::Decisions::writes))]
-fn decide_write(
-    s: &[u8],
+// A command that was read, with its segment, in which its list lies.
+#[derive(Clone, Copy)]
+struct Command<'a> {
+    segment: &'a [u8],
     said: Parsed,
-    on: Record,
-    slice: usize,
-    supplied: usize,
-) -> Result<Action, Refusal>
-    requires { (on.length ≤ slice) × ListAt s.now said.found.list }
-    ensures { result ≡ writes s.now said on slice supplied }
-{
-    if (supplied as u64) < said.size {
-        return Err(Refusal::BufferShort);
+    ghost listed: { (d : Part) → said.found.list ≡ Some d → ListIn segment.now d },
+}
+
+impl<'a> Command<'a> {
+    // Row 9.
+    fn has_wrong_start(self) -> bool
+        ensures { result ≡ (is_some self.entry.said.found.list && not (eqb self.entry.said.start 0)) }
+    {
+        self.said.found.list.is_some() && self.said.start != 0
     }
-    let raised = room_for(s, said, on, slice).ok_or(Refusal::NoRoom)?;
-    Ok(Action::Write(said, raised))
-}
 
-#[tactic(auto, unfolding(crate::specs::Decisions::clears))]
-fn decide_clear(s: &[u8], said: Parsed, on: Record, slice: usize) -> Result<Action, Refusal>
-    requires { (on.length ≤ slice) × ListAt s.now said.found.list }
-    ensures { result ≡ clears s.now said on slice }
-{
-    let raised = room_for(s, said, on, slice).ok_or(Refusal::NoRoom)?;
-    Ok(Action::Clear(said, raised))
-}
-
-#[tactic(auto, unfolding(crate::specs::Decisions::punches))]
-fn decide_punch(s: &[u8], said: Parsed, on: Record) -> Result<Action, Refusal>
-    requires { ListAt s.now said.found.list }
-    ensures { result ≡ punches s.now said on.length }
-{
-    if starts_beyond(s, said, on.length) {
-        return Err(Refusal::StartsBeyond);
+    // Row 10.
+    fn has_fault(self) -> bool
+        ensures { result ≡ fault_at self.entry.said.found.list self.entry.segment.now self.entry.said }
+    {
+        match self.said.found.list {
+            None => false,
+            Some(part) => ranges::is_list_fault(
+                self.segment,
+                part,
+                self.said.size,
+                self.said.verb == Verb::Write,
+            ),
+        }
     }
-    Ok(Action::Punch(said))
-}
 
-// Row 9.
-fn has_wrong_start(said: Parsed) -> bool
-    ensures { result ≡ (is_some said.found.list && not (eqb said.start 0)) }
-{
-    said.found.list.is_some() && said.start != 0
-}
+    // Row 12's test.
+    #[tactic(auto, unfolding(header::specs::Ranges::ranges_in, ranges::specs::Asked::beyond_in, rules::specs::Bytes::any))]
+    fn starts_beyond(self, logical: u64) -> bool
+        ensures { result ≡ beyond_in (ranges_in self.entry.segment.now self.entry.said) logical }
+    {
+        match self.said.found.list {
+            None => logical < self.said.start,
+            Some(part) => ranges::starts_beyond_in(self.segment, part, logical),
+        }
+    }
 
-// Row 10.
-fn has_fault(s: &[u8], said: Parsed) -> bool
-    requires { ListAt s.now said.found.list }
-    ensures { result ≡ fault_at said.found.list s.now said }
-{
-    match said.found.list {
-        None => false,
-        Some(part) => ranges::is_list_fault(s, part, said.size, said.verb == Verb::Write),
+    #[tactic(auto, unfolding(header::specs::Ranges::ranges_in, ranges::specs::Reached::lifted, rules::specs::Ranges::reach))]
+    fn reach(self, reached: usize, limit: usize) -> Option<usize>
+        requires { reached ≤ limit }
+        ensures { result ≡ within limit (reach reached (ranges_in self.entry.segment.now self.entry.said)) }
+    {
+        let Parsed { start, size, .. } = self.said;
+        match self.said.found.list {
+            None => ranges::reach_more(reached, Range { start, size }, limit),
+            Some(part) => ranges::reach_in(self.segment, part, reached, limit),
+        }
+    }
+
+    // Row 14: the logical length that WRITE or CLEAR leaves, where there is room for it.
+    #[tactic(auto, unfolding(crate::specs::Decisions::room_for, ranges::specs::Reached::within))]
+    fn room(self, on: Record, slice: usize) -> Option<usize>
+        requires { on.length ≤ slice }
+        ensures { result ≡ room_for on.length on.maximum slice (reach on.length (ranges_in self.entry.segment.now self.entry.said)) }
+    {
+        let raised = self.reach(on.length as usize, slice)?;
+        if on.length < raised as u64 && on.maximum < raised as u64 {
+            return None;
+        }
+        Some(raised)
+    }
+
+    // Rows 12 to 14, verb by verb.
+    #[tactic(auto, unfolding(crate::specs::Decisions::reads))]
+    fn read(self, on: Record, input: usize) -> Result<Action, Refusal>
+        ensures { result ≡ reads self.entry.segment.now self.entry.said on.length input }
+    {
+        if self.starts_beyond(on.length) {
+            return Err(Refusal::StartsBeyond);
+        }
+        if (input as u64) < self.said.size {
+            return Err(Refusal::BufferShort);
+        }
+        Ok(Action::Read(self.said))
+    }
+
+    #[tactic(auto, unfolding(crate::specs::Decisions::writes))]
+    fn write(self, on: Record, slice: usize, supplied: usize) -> Result<Action, Refusal>
+        requires { on.length ≤ slice }
+        ensures { result ≡ writes self.entry.segment.now self.entry.said on slice supplied }
+    {
+        if (supplied as u64) < self.said.size {
+            return Err(Refusal::BufferShort);
+        }
+        let raised = self.room(on, slice).ok_or(Refusal::NoRoom)?;
+        Ok(Action::Write(self.said, raised))
+    }
+
+    #[tactic(auto, unfolding(crate::specs::Decisions::clears))]
+    fn clear(self, on: Record, slice: usize) -> Result<Action, Refusal>
+        requires { on.length ≤ slice }
+        ensures { result ≡ clears self.entry.segment.now self.entry.said on slice }
+    {
+        let raised = self.room(on, slice).ok_or(Refusal::NoRoom)?;
+        Ok(Action::Clear(self.said, raised))
+    }
+
+    #[tactic(auto, unfolding(crate::specs::Decisions::punches))]
+    fn punch(self, on: Record) -> Result<Action, Refusal>
+        ensures { result ≡ punches self.entry.segment.now self.entry.said on.length }
+    {
+        if self.starts_beyond(on.length) {
+            return Err(Refusal::StartsBeyond);
+        }
+        Ok(Action::Punch(self.said))
     }
 }
 
@@ -147,20 +153,23 @@ pub fn decide(
         return Err(Refusal::ObjectUnfit);
     }
     let said = header::read_command(cdb, out, on)?;
-    if has_wrong_start(said) {
+    let command = Command {
+        segment: &out[0..said.segment],
+        said,
+    };
+    if command.has_wrong_start() {
         return Err(Refusal::ListWithStart);
     }
-    let segment = &out[0..said.segment];
-    if has_fault(segment, said) {
+    if command.has_fault() {
         return Err(Refusal::ListFault);
     }
     if !admission::is_admitted(cdb, out, said, on) {
         return Err(Refusal::NotAdmitted);
     }
     match said.verb {
-        Verb::Read => decide_read(segment, said, on, input),
-        Verb::Write => decide_write(segment, said, on, slice, out.len() - said.segment),
-        Verb::Clear => decide_clear(segment, said, on, slice),
-        Verb::Punch => decide_punch(segment, said, on),
+        Verb::Read => command.read(on, input),
+        Verb::Write => command.write(on, slice, out.len() - said.segment),
+        Verb::Clear => command.clear(on, slice),
+        Verb::Punch => command.punch(on),
     }
 }

@@ -67,7 +67,7 @@ impl TryFrom<u64> for Verb {
 
     ghost try_from_gives = { IsReadVerb };
 
-    #[tactic(auto, using(crate::proofs::Verbs::verbs))]
+    #[tactic(auto, unfolding(crate::specs::Command::read_verb, crate::specs::Command::verb_of, crate::specs::Tests::first_of))]
     fn try_from(action: u64) -> Result<Verb, Refusal> {
         match action {
             READ => Ok(Verb::Read),

@@ -1,5 +1,6 @@
 use Rattle.std.proofs.Common.{rules, sym, ◌∙◌}
 use Rattle.header.specs.Reading.{command}
+use Rattle.segment.proofs.Lying.{lies}
 use Rattle.decision.specs.Decisions.{room, Open, LetIn}
 use Rattle.decision.proofs.Table.{object_fits, not_readable, part_ends, part_lists, held, start_refused, starts_right, list_refused, not_let_in, let_in, part_reads, part_writes, part_clears, part_punches}
 use Rattle.decision.proofs.decide.Goals as goal
@@ -29,11 +30,11 @@ pub returns-then-has_wrong_start : goal.returns-then-has_wrong_start
 returns-then-has_wrong_start c =
     start_refused _ _ _ (opened (goal.at.returns-then-has_wrong_start c).In_ok-said) _ c.has_wrong_start.ensures c.if-has_wrong_start.true
 
-pub slice_bounds-segment-end : goal.slice_bounds-segment-end
-slice_bounds-segment-end c = let l = part_ends _ _ _ (opened (goal.at.slice_bounds-segment-end c).In_ok-said) in search rules
+pub slice_bounds-command-end : goal.slice_bounds-command-end
+slice_bounds-command-end c = let l = part_ends _ _ _ (opened (goal.at.slice_bounds-command-end c).In_ok-said) in search rules
 
-pub has_fault-requires : goal.has_fault-requires
-has_fault-requires c = part_lists _ _ _ (opened (goal.at.has_fault-requires c).In_ok-said)
+pub invariant_of-command : goal.invariant_of-command
+invariant_of-command c = record { listed = λ d e. lies _ _ d (part_lists _ _ _ (opened (goal.at.invariant_of-command c).In_ok-said)) e }
 
 pub returns-then-has_fault : goal.returns-then-has_fault
 returns-then-has_fault c =
@@ -46,34 +47,28 @@ returns-then-not-is_admitted c =
     not_let_in _ _ _ o (starts_right _ _ _ o _ c.has_wrong_start.ensures c.if-has_wrong_start.false) _ c.has_fault.ensures c.if-has_fault.false
     _ c.is_admitted.ensures (search rules)
 
-pub decide_read-requires : goal.decide_read-requires
-decide_read-requires c = part_lists _ _ _ (opened (goal.at.decide_read-requires c).In_ok-said)
+pub write-requires : goal.write-requires
+write-requires c = held _ _ _ (opened (goal.at.write-requires c).In_ok-said)
 
-pub decide_write-requires : goal.decide_write-requires
-decide_write-requires c = let o = opened (goal.at.decide_write-requires c).In_ok-said in (held _ _ _ o, part_lists _ _ _ o)
-
-pub decide_clear-requires : goal.decide_clear-requires
-decide_clear-requires c = let o = opened (goal.at.decide_clear-requires c).In_ok-said in (held _ _ _ o, part_lists _ _ _ o)
-
-pub decide_punch-requires : goal.decide_punch-requires
-decide_punch-requires c = part_lists _ _ _ (opened (goal.at.decide_punch-requires c).In_ok-said)
+pub clear-requires : goal.clear-requires
+clear-requires c = held _ _ _ (opened (goal.at.clear-requires c).In_ok-said)
 
 pub returns-in-Read : goal.returns-in-Read
 returns-in-Read c =
     let at = goal.at.returns-in-Read c in
-    part_reads _ _ _ (admitted at.Else-not-is_admitted (opened at.In_ok-said)) c.in-Read.is _ c.decide_read.ensures
+    part_reads _ _ _ (admitted at.Else-not-is_admitted (opened at.In_ok-said)) c.in-Read.is _ c.read.ensures
 
 pub returns-in-Write : goal.returns-in-Write
 returns-in-Write c =
     let at = goal.at.returns-in-Write c in
-    part_writes _ _ _ (admitted at.Else-not-is_admitted (opened at.In_ok-said)) c.in-Write.is _ c.decide_write.ensures
+    part_writes _ _ _ (admitted at.Else-not-is_admitted (opened at.In_ok-said)) c.in-Write.is _ c.write.ensures
 
 pub returns-in-Clear : goal.returns-in-Clear
 returns-in-Clear c =
     let at = goal.at.returns-in-Clear c in
-    part_clears _ _ _ (admitted at.Else-not-is_admitted (opened at.In_ok-said)) c.in-Clear.is _ c.decide_clear.ensures
+    part_clears _ _ _ (admitted at.Else-not-is_admitted (opened at.In_ok-said)) c.in-Clear.is _ c.clear.ensures
 
 pub returns-in-Punch : goal.returns-in-Punch
 returns-in-Punch c =
     let at = goal.at.returns-in-Punch c in
-    part_punches _ _ _ (admitted at.Else-not-is_admitted (opened at.In_ok-said)) c.in-Punch.is _ c.decide_punch.ensures
+    part_punches _ _ _ (admitted at.Else-not-is_admitted (opened at.In_ok-said)) c.in-Punch.is _ c.punch.ensures
