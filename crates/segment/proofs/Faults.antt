@@ -1,8 +1,8 @@
 -- What a descriptor of a known type is refused for, fault by fault.
 use Rattle.std.specs.Prelude.{Result, Ok, Err, Option, None, Some}
 use Prim.Native.Nat.{ℕ, ◌+◌, ◌-◌, ◌%◌, ◌≤◌, ◌<◌}
-use mathlib.Core.Path.{◌≡◌, refl, sym, ap, ◌∙◌}
-use mathlib.Core.Bool.{Bool, true, false, ◌&&◌, not, and-true, and-false}
+use mathlib.Core.Path.{◌≡◌, sym, ◌∙◌}
+use mathlib.Core.Bool.{Bool, true, false, ◌&&◌, not}
 use lib.Dec.{eqb}
 use lib.ListN.{length}
 use native.Mathlib.Omega.{arith}
@@ -11,7 +11,7 @@ use Rattle.rules.specs.declared.Cause.{Cause}
 use Rattle.rules.specs.declared.Cause.TheVariants.{Over, Padding, Misfit, Past}
 use Rattle.rules.specs.Bytes.{Bytes, field}
 use Rattle.rules.specs.Tests.{first_of}
-use Rattle.rules.specs.Segment.{size_at, pad_at, next, faults, unless, data_at, entries_here, extensions_here, entry_at}
+use Rattle.rules.specs.Segment.{size_at, pad_at, next, faults, unless, data_at, entries_here, extensions_here}
 use Rattle.rules.specs.declared.Here.{Here}
 use Rattle.rules.specs.declared.Here.TheVariants.{Entries, Extensions}
 use Rattle.rules.specs.declared.Part.{Part}
@@ -85,11 +85,6 @@ module _ (s : Bytes) (at : ℕ) (r : Result Part Cause) where
 pub size_read : (s : Bytes) (at size : ℕ) → size ≡ field (at + 4) 4 s → size ≡ size_at s at
 unfolding size_at
 size_read s at size e = e
-
--- a list entry from its two numbers
-pub entry_read : (s : Bytes) (at start size : ℕ) → start ≡ field at 8 s → size ≡ field (at + 8) 8 s → record { start = start; size = size } ≡ entry_at s at
-unfolding entry_at
-entry_read s at start size e f = rw (e, f)
 
 -- what `segment::standing_at` meets its contract by, at a descriptor
 pub ruleset descriptors = (size_read, list_sound, list_faulty, extension_sound, extension_faulty)
