@@ -3,9 +3,9 @@
 
 #![tactic(auto)]
 
-ghost use Rattle.std.specs.Prelude.{◌≡◌, ◌≤◌, length, Some};
+ghost use Rattle.std.specs.Prelude.{◌≡◌, ◌≤◌, length, Some, ◌<◌};
 ghost use Rattle.callfile.specs.File.{section_at, layout_of, record_of};
-ghost use Rattle.callfile.specs.Told.{line_of, line_text};
+ghost use Rattle.callfile.specs.Told.{line_of, line_text, hex_digit, code_text};
 
 use rules::{Answer, Part, Record};
 use std::fmt;
@@ -100,4 +100,27 @@ impl fmt::Display for Line {
         } = *self;
         write!(f, "{number} {key} {code:04X} {count} {length}")
     }
+}
+
+fn hex_digit(d: u32) -> u8
+    requires { d < 16 }
+    ensures { result ≡ hex_digit d }
+{
+    if d < 10 {
+        b'0' + d as u8
+    } else {
+        b'A' - 10 + d as u8
+    }
+}
+
+// The code's digits alone, for who prints without a formatter.
+pub fn code_text(code: u32) -> [u8; 4]
+    ensures { result ≡ code_text code }
+{
+    [
+        hex_digit(code / 4096 % 16),
+        hex_digit(code / 256 % 16),
+        hex_digit(code / 16 % 16),
+        hex_digit(code % 16),
+    ]
 }

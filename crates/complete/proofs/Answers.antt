@@ -78,6 +78,7 @@ use Rattle.holmweder.proofs.holmweder_write.Reads as holmweder_write
 use Rattle.callfile.proofs.layout_of.Reads as layout_of
 use Rattle.callfile.proofs.record_of.Reads as record_of
 use Rattle.callfile.proofs.line_of.Reads as line_of
+use Rattle.callfile.proofs.code_text.Reads as code_text
 
 -- two answers that a promise P allows
 abbrev One : {K : Type 0} {A R S : K → Type 0} → ((κs : K) → A κs → R κs → S κs → Type 0) → Type 0
@@ -361,3 +362,6 @@ one_record_of κs a r r' s s' e f = e ∙ sym f
 
 one_line_of : One line_of.Post
 one_line_of κs a r r' s s' e f = e ∙ sym f
+
+one_code_text : One code_text.Post
+one_code_text κs a r r' s s' e f = e ∙ sym f
