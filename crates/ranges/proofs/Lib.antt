@@ -1,3 +1,4 @@
 pub mod Meetings
 pub mod Sums
 pub mod Reaches
+pub mod Loading

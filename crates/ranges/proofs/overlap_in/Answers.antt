@@ -1,18 +1,16 @@
-use Rattle.std.proofs.Common.{rules}
-use borrow.Author.Tests.{tests}
-use mathlib.Core.Path.{refl}
-use Rattle.rules.specs.Ranges.{meet, overlapping}
-use Rattle.segment.proofs.Runs.{any_left}
+use mathlib.Core.Logic.{inl}
+use native.Mathlib.Omega.{arith}
+use Rattle.rules.proofs.Entries.{entries_count}
+use Rattle.ranges.proofs.Loading.{loaded_more}
 use Rattle.ranges.proofs.overlap_in.Goals as goal
 
-pub returns-then-any : goal.returns-then-any
-unfolding overlapping
-returns-then-any c =
-    let e = any_left (meet c.in-Some.g) refl _ _ _ (λ x b q k. search (rules, tests)) c.any.ensures.ran in
-    search (rules, tests)
+pub loop-i-init-derived : goal.loop-i-init-derived
+loop-i-init-derived c =
+    let i = c.into_iter-i-iterator.ensures.into_iter_gives in
+    let e = c.enumerate-i-items.ensures in
+    ((tt, tt, inl (rw (i, e.source, e.count, c.entries_in.ensures, entries_count) (omega (arith, c.requires.few)))), tt)
 
-pub loop-g-preserved : goal.loop-g-preserved
-unfolding overlapping
-loop-g-preserved c =
-    let e = any_left (meet c.in-Some.g) refl _ _ _ (λ x b q k. search (rules, tests)) c.any.ensures.ran in
-    search (rules, tests)
+pub loop-i-preserved : goal.loop-i-preserved
+loop-i-preserved c =
+    let e = c.in-Some.ensures.steps in
+    loaded_more _ _ _ _ _ _ _ _ _ c.loop-i.invariant e.0 (rw entries_count (omega (arith, c.requires.few))) e.1 e.2
