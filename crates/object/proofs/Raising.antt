@@ -1,17 +1,21 @@
 -- One range that raises the length: it hides what was zeroed under it, so only the gap in front of it need be.
 use Prim.Native.Nat.{ℕ, ◌+◌, ◌-◌, ◌≤◌, ◌<◌, max}
-use mathlib.Core.Path.{◌≡◌, ap, sym, ◌∙◌}
+use mathlib.Core.Path.{◌≡◌, sym, ◌∙◌}
+use mathlib.Core.Bool.{false}
+use lib.Dec.{eqb}
 use mathlib.Core.Logic.{◌⊎◌, inl, inr, ⊎_elim}
 use mathlib.Core.List.{[], ◌∷◌}
-use native.Mathlib.Nat.{add-sub_of_le, le_of_eq}
+use native.Mathlib.Nat.{add-sub_of_le}
 use native.Mathlib.Omega.{arith}
-use lib.ListN.{length, take}
-use lib.Seq.{ext_get_or, take_all}
+use lib.ListN.{length}
+use lib.Seq.{ext_get_or, take_all, length-take-le}
+use Rattle.std.proofs.lemmas.List.{take-replicate}
 use borrow.Author.Tests.{eq-eqb, ne_eqb}
 use Rattle.rules.specs.declared.Range.{Range}
-use Rattle.rules.specs.Bytes.{Bytes, byte, zeros, laid}
+use Rattle.rules.specs.Bytes.{Bytes, byte, laid}
 use Rattle.rules.specs.Ranges.{end, reach}
-use Rattle.rules.specs.Object.{scattered, grown}
+use Rattle.rules.specs.Object.{grown}
+use Rattle.object.specs.Gap.{grown_up_to}
 use Rattle.rules.proofs.Booleans.{lt_or_le}
 use Rattle.rules.proofs.Laying.{length_zeros}
 use Rattle.rules.proofs.Lists.{laid_nothing, laid_length, laid_below, laid_within, laid_above}
@@ -38,29 +42,28 @@ laid_hides at d a b fits e around =
         let back : at + (p - at) ≡ p = add-sub_of_le k in
         rw (← back) (laid_within at d a (p - at) (omega arith) (omega arith) ∙ sym (laid_within at d b (p - at) (omega (arith, fits')) (omega arith)))
 
--- what CLEAR lays: as many zeros as the range has bytes
-pub zeros_all : (n : ℕ) → take n (zeros n) ≡ zeros n
-zeros_all n = take_all n (zeros n) (le_of_eq (length_zeros n))
-
--- where the range reaches
-pub reach_empty : (n : ℕ) (g : Range) → g.size ≡ 0 → reach n (g ∷ []) ≡ n
-unfolding reach
-reach_empty n g e = rw (eq-eqb g.size 0 e)
-
-pub reach_full : (n : ℕ) (g : Range) → (g.size ≡ 0 → ⊥) → reach n (g ∷ []) ≡ max n (end g)
-unfolding reach
-reach_full n g e = rw (ne_eqb g.size 0 e)
-
 module _ (n : ℕ) (g : Range) (s : Bytes) (room : reach n (g ∷ []) ≤ length s) where
-  pub raises_nothing : g.size ≡ 0 → (d : Bytes) → s ≡ scattered (grown n (reach n (g ∷ [])) s) (g ∷ []) d
-  unfolding scattered grown
-  raises_nothing e d =
+  empty : g.size ≡ 0 → (grown_up_to n g s ≡ s) × (grown n (reach n (g ∷ [])) s ≡ s)
+  unfolding grown_up_to reach grown
+  empty e =
       let none : n - n ≡ 0 = omega arith in
-      rw (reach_empty n g e, e, none, laid_nothing g.start, laid_nothing n s)
+      let is = eq-eqb g.size 0 e in
+      (rw is, rw (is, none, laid_nothing n s))
 
-  module _ (full : g.size ≡ 0 → ⊥) where
+  module _ (full : 0 < g.size) where
+    is_full : eqb g.size 0 ≡ false
+    is_full = ne_eqb g.size 0 (omega arith)
+
+    reached : reach n (g ∷ []) ≡ max n (end g)
+    unfolding reach
+    reached = rw is_full
+
+    opened : grown_up_to n g s ≡ grown n (max n g.start) s
+    unfolding grown_up_to
+    opened = rw is_full
+
     inside : max n (end g) ≤ length s
-    inside = rw (reach_full n g full) at room
+    inside = rw (← reached) room
 
     low : max n g.start ≤ length s
     low = omega (arith, inside)
@@ -79,25 +82,21 @@ module _ (n : ℕ) (g : Range) (s : Bytes) (room : reach n (g ∷ []) ≤ length
             ∙ sym (grown_other n _ s (omega arith) inside p (inr (omega arith))))
             out
 
-    long : length (grown n (max n g.start) s) ≡ length s
-    long = grown_length n (max n g.start) s (omega arith) low
+    long : length (grown_up_to n g s) ≡ length s
+    long = rw opened (grown_length n (max n g.start) s (omega arith) low)
 
-    hidden : (d : Bytes) → length d ≡ g.size → laid g.start d (grown n (max n g.start) s) ≡ laid g.start d (grown n (max n (end g)) s)
+    pub fill_asks : g.start + g.size ≤ length (grown_up_to n g s)
+    fill_asks = rw long (omega (arith, inside))
+
+    hidden : (d : Bytes) → length d ≡ g.size → laid g.start d (grown_up_to n g s) ≡ laid g.start d (grown n (reach n (g ∷ [])) s)
     hidden d l =
         let high = grown_length n (max n (end g)) s (omega arith) inside in
-        laid_hides g.start d _ _ (rw (l, long) (omega (arith, inside))) (long ∙ sym high) (λ p out. around p (rw l at out))
+        rw reached
+        (laid_hides g.start d _ _ (rw l fill_asks) (long ∙ sym high) (λ p out. rw opened (around p (rw l at out))))
 
-    -- first the gap, up to `top`, which leaves o; then the range, from the bytes d
-    module _ (top : ℕ) (is : top ≡ max n g.start) where
-      pub gap_asks : (n ≤ top) × (top ≤ length s)
-      gap_asks = (omega (arith, is), omega (arith, is, low))
+  -- the range itself is filled
+  pub filled : (d : Bytes) → length d ≡ g.size → laid g.start d (grown_up_to n g s) ≡ laid g.start d (grown n (reach n (g ∷ [])) s)
+  filled d l = ⊎_elim (λ (f : 0 < g.size). hidden f d l) (λ (z : g.size ≤ 0). rw ((empty (omega arith)).0, (empty (omega arith)).1)) (lt_or_le 0 g.size)
 
-      module _ (o : Bytes) (gap : o ≡ grown n top s) where
-        pub fill_asks : g.start + g.size ≤ length o
-        fill_asks = rw (gap, is, long) (omega (arith, inside))
-
-        pub raises : (d e : Bytes) → length e ≡ g.size → e ≡ take g.size d → (t : Bytes) → t ≡ laid g.start e o
-            → t ≡ scattered (grown n (reach n (g ∷ [])) s) (g ∷ []) d
-        unfolding scattered
-        raises d e l same t over =
-            over ∙ ap (λ (b : Bytes). laid g.start e b) (gap ∙ rw is) ∙ hidden e l ∙ rw (reach_full n g full, same)
+-- what `object::write_range` and `object::clear_range` meet their contracts by
+pub ruleset raising = (length_zeros, take-replicate, length-take-le, fill_asks, filled)

@@ -1,12 +1,20 @@
--- `object::gather_list` meets its contract: the invariant is `Gathering`, and the measure the entries still to come.
-use lib.ListN.{take}
+-- What is done is `done` bytes of `input`: with the bytes of the entries that are left laid behind them, all is as asked.
+use Rattle.std.proofs.Common.{◌≡◌, ◌/◌, ◌≤◌, ◌+◌, length}
+use mathlib.Core.Bool.{false}
+use lib.Dec.{ltb}
+use Rattle.rules.specs.declared.Range.{Range}
+use Rattle.rules.specs.Bytes.{any, laid}
+use Rattle.rules.specs.Ranges.{total}
 use Rattle.rules.specs.Segment.{entries_from}
-use Rattle.object.proofs.Gathering.{Gathering}
+use Rattle.rules.specs.Object.{gathered}
+use Rattle.segment.specs.Left.{entries_left}
 use Rattle.object.proofs.gather_list.Given as goal
 
-abbrev pub invariant-loop-left : goal.invariant-loop-left
-invariant-loop-left l =
-    Gathering (take l.logical l.slice) (entries_from l.n l.s l.at) l.initial.input l.s l.input l.place l.left l.done
-
-abbrev pub decreases-loop-left : goal.decreases-loop-left
-decreases-loop-left l = l.left
+abbrev pub invariant-loop-g : goal.invariant-loop-g
+invariant-loop-g l =
+    (l.done + total (entries_left l.g-iterator) ≤ length l.input)
+    × (any (λ (g : Range). ltb (length l.object) g.start) (entries_left l.g-iterator) ≡ false)
+    × (l.done + length (gathered l.object (entries_left l.g-iterator))
+    ≡ length (gathered l.object (entries_from (l.fn.part.size / 16) l.s l.fn.part.at)))
+    × (laid l.done (gathered l.object (entries_left l.g-iterator)) l.input
+    ≡ laid 0 (gathered l.object (entries_from (l.fn.part.size / 16) l.s l.fn.part.at)) l.initial.input)
