@@ -21,8 +21,8 @@ fn done(next: Record, count: u64) -> Answer
 {
     Answer {
         outcome: Outcome::Done,
-        count: count,
-        next: next,
+        count,
+        next,
     }
 }
 
@@ -32,8 +32,7 @@ pub fn read(segment: &[u8], said: Parsed, on: Record, slice: &[u8], input: &mut 
         (result ≡ answer (cond (ltb (length d) said.size) Ended Done) (length d) on)
         × (input.new ≡ d ++ drop (length d) input.old) }
 {
-    let count = object::gather_ranges(segment, said, slice, on.length as usize, input);
-    let got = count as u64;
+    let got = object::gather_ranges(segment, said, slice, on.length as usize, input) as u64;
     if got < said.size {
         return Answer {
             outcome: Outcome::Ended,
