@@ -1,7 +1,7 @@
 -- What is found of all ranges is what the book says of the command that was read.
 use Rattle.std.specs.Prelude.{Ok, is_some, Option, None, Some}
 use Rattle.rules.specs.declared.Part.{Part}
-use Prim.Native.Nat.{ℕ, ◌-◌, ◌/◌}
+use Prim.Native.Nat.{ℕ, ◌/◌}
 use mathlib.Core.Path.{◌≡◌, refl, ap, sym, ◌∙◌}
 use mathlib.Core.Bool.{Bool, true, false, cond, ◌||◌, and-true}
 use mathlib.Core.List.{List, [], ◌∷◌, map}
@@ -101,5 +101,5 @@ module _ (c : Command) (p : Parsed) (s : Says c p) where
 
 -- ---- over the answer of the reading, and the part of Data-Out that the code takes for the segment
 module _ (c : Command) (p : Parsed) (e : reading_of c ≡ Ok p) where
-  pub part_admitted : (t : Bool) → t ≡ admitted_in c.cdb (take (p.segment - 0) c.out) p c.on → t ≡ admitted p.verb c
+  pub part_admitted : (t : Bool) → t ≡ admitted_in c.cdb (take p.segment c.out) p c.on → t ≡ admitted p.verb c
   part_admitted t q = q ∙ ap (λ (s : Bytes). admitted_in c.cdb s p c.on) (part_is c p e) ∙ sym (says_admitted c p (says c p e))

@@ -1,21 +1,18 @@
 -- What the admission functions answer, over a command that was read: what those of its capabilities allow that match.
-use Rattle.std.specs.Prelude.{Option, None, Some, ℕ, ◌+◌, ◌/◌, ◌≡◌, Bool, true, false, cond, ◌&&◌, List, [], ◌∷◌, ◌++◌, map, length, take}
+use Rattle.std.specs.Prelude.{Option, None, Some, ◌/◌, Bool, true, false, cond, ◌&&◌, List, [], ◌∷◌}
 use Rattle.rules.specs.declared.Part.{Part}
 use Rattle.rules.specs.declared.Record.{Record}
 use Rattle.rules.specs.declared.Range.{Range}
 use Rattle.rules.specs.Bytes.{Bytes, part, any, all}
-use Rattle.rules.specs.Segment.{places_from, entries_from}
-use Rattle.rules.specs.Writer.{paired}
+use Rattle.rules.specs.Segment.{entries_from}
 use Rattle.capability.specs.declared.Sought.{Sought}
 use Rattle.capability.specs.Terms.{meets}
 use Rattle.capability.specs.Allowance.{allowance, inside_of}
 use Rattle.header.specs.declared.Parsed.{Parsed}
 use Rattle.capability.specs.Sought.{sought_by}
+use Rattle.capability.specs.Pieces.{pieces_from}
 
 -- the capabilities, the CDB's first
-abbrev pub pieces_from : Bytes → (number from : ℕ) → List Bytes
-pieces_from s n from = map (λ (a : ℕ). part a 104 s) (places_from n from)
-
 abbrev pub pieces_at : Bytes → Option Part → List Bytes
 pieces_at s None = []
 pieces_at s (Some d) = pieces_from s (d.size / 104) d.at
@@ -27,11 +24,6 @@ pieces_in cdb s p = part 80 104 cdb ∷ pieces_at s p.found.extension
 unfoldable pub noted : Sought → List Bytes → List Range
 noted w [] = []
 noted w (k ∷ ks) = cond (meets w k) (allowance k ∷ noted w ks) (noted w ks)
-
--- what is noted of capabilities stands behind the n ranges that two slices had, and r are there now
-pub record Noted (w : Sought) (ks : List Bytes) (n : ℕ) (starts₀ sizes₀ : List ℕ) (r : ℕ) (starts sizes : List ℕ) : Type 0 where
-  pub count : r ≡ n + length (noted w ks)
-  pub ranges : paired (take r starts) (take r sizes) ≡ paired (take n starts₀) (take n sizes₀) ++ noted w ks
 
 -- a range lies inside one of the allowances
 abbrev pub inside_one : List Range → Range → Bool

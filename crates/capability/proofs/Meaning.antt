@@ -1,10 +1,11 @@
 -- The capabilities of a command that was read, as the book says of them.
 use Rattle.std.specs.Prelude.{Ok, Option}
-use Prim.Native.Nat.{◌-◌, ◌≤◌}
+use Prim.Native.Nat.{◌≤◌}
 use mathlib.Core.Path.{◌≡◌, refl, ap, sym, subst}
 use mathlib.Core.Bool.{Bool, ◌&&◌}
 use mathlib.Core.List.{List, map}
 use lib.ListN.{length, take}
+use native.Mathlib.Nat.{sub-zero}
 use Rattle.rules.specs.declared.Range.{Range}
 use Rattle.rules.specs.declared.Verb.{Verb}
 use Rattle.rules.specs.Bytes.{Bytes}
@@ -61,11 +62,11 @@ module _ (c : Command) (p : Parsed) (e : reading_of c ≡ Ok p) where
   said_so : Says c p
   said_so = says c p e
 
-  pub part_is : take (p.segment - 0) c.out ≡ segment c
-  part_is = (says_segment c p said_so).0
+  pub part_is : take p.segment c.out ≡ segment c
+  part_is = rw sub-zero at (says_segment c p said_so).0
 
   pub part_ends : p.segment ≤ length c.out
   part_ends = (says_segment c p said_so).1
 
-  pub part_reads : Reads c.cdb (take (p.segment - 0) c.out) p
+  pub part_reads : Reads c.cdb (take p.segment c.out) p
   part_reads = subst (λ (s : Bytes). Reads c.cdb s p) (sym part_is) (says_reads c p said_so)

@@ -1,26 +1,21 @@
 -- The capabilities of an extension: one after the other, each 104 bytes of the segment.
-use Prim.Native.Nat.{ℕ, zero, suc, ◌+◌, ◌-◌, ◌≤◌, ◌<◌}
-use mathlib.Core.Path.{◌≡◌, refl}
-use mathlib.Core.List.{[], ◌∷◌}
-use native.Mathlib.Nat.{not-suc-le-zero, add-sub_cancel_left}
+use Rattle.std.specs.Prelude.{ℕ, zero, suc, ◌+◌, ◌-◌, ◌*◌, ◌≤◌, ◌≡◌, take, drop}
+use mathlib.Core.Path.{refl, ap, ◌∙◌}
 use native.Mathlib.Omega.{arith}
-use lib.ListN.{length, take, drop, length-take, length-drop}
+use lib.Seq.{drop-drop}
+use Rattle.std.specs.Simd.{first_chunks}
+use Rattle.std.proofs.lemmas.List.{drop-take, take-take}
 use Rattle.rules.specs.Bytes.{Bytes, part}
 use Rattle.rules.specs.Segment.{places_from}
+use Rattle.capability.specs.Pieces.{pieces_from}
 
-pub peel : (left from : ℕ) → 0 < left → places_from left from ≡ from ∷ places_from (left - 1) (from + 104)
+-- the chunks of a part of the segment
+pub chunks_are : (n m at : ℕ) (s : Bytes) → 104 * n ≤ m → first_chunks 104 n (take m (drop at s)) ≡ pieces_from s n at
 unfolding places_from
-peel zero from h = absurd (not-suc-le-zero h)
-peel (suc n) from h = let e : suc n - 1 ≡ n = omega arith in rw e
-
-pub none_left : (left from : ℕ) → left ≤ 0 → places_from left from ≡ []
-unfolding places_from
-none_left zero from h = refl
-none_left (suc n) from h = absurd (not-suc-le-zero h)
-
--- the part of a slice that is a capability
-pub piece : (s : Bytes) (from : ℕ) → take (from + 104 - from) (drop from s) ≡ part from 104 s
-piece s from = rw add-sub_cancel_left
-
-pub piece_length : (s : Bytes) (from : ℕ) → from + 104 ≤ length s → 104 ≤ length (take (from + 104 - from) (drop from s))
-piece_length s from h = rw piece (simp (length-take, length-drop) (omega arith))
+chunks_are zero m at s h = refl
+chunks_are (suc n) m at s h =
+    let one : take 104 (take m (drop at s)) ≡ part at 104 s = take-take 104 m (drop at s) (omega arith) in
+    let e : m ≡ 104 + (m - 104) = omega arith in
+    let rest : drop 104 (take m (drop at s)) ≡ take (m - 104) (drop (at + 104) s) =
+    ap (λ (k : ℕ). drop 104 (take k (drop at s))) e ∙ drop-take 104 (m - 104) (drop at s) ∙ ap (take (m - 104)) (drop-drop 104 at s) in
+    rw (one, rest, chunks_are n (m - 104) (at + 104) s (omega arith))

@@ -1,3 +1,4 @@
 pub mod Terms
 pub mod Allowance
 pub mod Sought
+pub mod Pieces

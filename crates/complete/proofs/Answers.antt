@@ -54,6 +54,7 @@ use Rattle.capability.proofs.allowance_of.Reads as allowance_of
 use Rattle.capability.proofs.is_allowed.Reads as is_allowed
 use Rattle.capability.proofs.is_inside.Reads as is_inside
 use Rattle.capability.proofs.sought_by.Reads as sought_by
+use Rattle.capability.proofs.capabilities_in.Reads as capabilities_in
 use Rattle.admission.proofs.is_admitted.Reads as is_admitted
 use Rattle.question.proofs.place_that_admits.Reads as place_that_admits
 use Rattle.question.proofs.capability_that_admits.Reads as capability_that_admits
@@ -216,7 +217,7 @@ one_reach_more κs a r r' s s' e f = e ∙ sym f
 one_reach_in : One reach_in.Post
 one_reach_in κs a r r' s s' e f = e ∙ sym f
 
--- ---- `capability`: one capability
+-- ---- `capability`: one capability, and those of an extension
 one_is_match : One is_match.Post
 one_is_match κs a r r' s s' e f = e ∙ sym f
 
@@ -231,6 +232,11 @@ one_is_inside κs a r r' s s' e f = e ∙ sym f
 
 one_sought_by : One sought_by.Post
 one_sought_by κs a r r' s s' e f = e ∙ sym f
+
+one_capabilities_in : (κs : _) (a : _) (r r' : _) (s s' : _)
+    → capabilities_in.Post κs a r s → capabilities_in.Post κs a r' s'
+    → r.now ≡ r'.now
+one_capabilities_in κs a r r' s s' e f = e.pieces ∙ sym f.pieces
 
 -- ---- `admission`: row 11
 one_is_admitted : One is_admitted.Post

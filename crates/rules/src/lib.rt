@@ -37,7 +37,7 @@ impl Record {
 }
 
 // Positions of the object: `size` of them from `start` on.
-#[derive(Clone, Copy)]
+#[derive(Clone, Copy, Default)]
 pub struct Range {
     pub start: u64,
     pub size: u64,

@@ -13,7 +13,7 @@ use Rattle.rules.specs.Bytes.{any, all}
 use Rattle.segment.specs.declared.ListEntries.{ListEntries}
 use Rattle.segment.specs.Left.{entries_left}
 
-any_is : {X : Type 0} (f : X → Bool) (xs : List X) → list_any f xs ≡ any f xs
+pub any_is : {X : Type 0} (f : X → Bool) (xs : List X) → list_any f xs ≡ any f xs
 unfolding any
 any_is f [] = refl
 any_is f (x ∷ xs) = ap (λ (b : Bool). f x || b) (any_is f xs)

@@ -1,15 +1,10 @@
-use Rattle.admission.proofs.Search.{each_fails, each_on, each_done}
+use Rattle.std.proofs.Common.{rules}
+use borrow.Author.Tests.{tests}
+use Rattle.segment.proofs.Runs.{all_left}
+use Rattle.admission.specs.Allowed.{inside_one}
 use Rattle.admission.proofs.all_inside.Goals as goal
 
-pub returns-then-not-lies_inside : goal.returns-then-not-lies_inside
-returns-then-not-lies_inside c =
-    each_fails _ _ _ _ _ _ c.loop-left.invariant c.loop-left-test.true _
-    c.entry_at-g.ensures _ c.lies_inside.ensures c.if-not-lies_inside.true
-
-pub loop-left-preserved : goal.loop-left-preserved
-loop-left-preserved c =
-    each_on _ _ _ _ _ _ c.loop-left.invariant c.loop-left-test.true _
-    c.entry_at-g.ensures _ c.lies_inside.ensures c.if-not-lies_inside.false
-
-pub returns : goal.returns
-returns c = each_done _ _ _ _ _ _ c.loop-left.invariant c.loop-left-test.false
+pub returns-in-Some : goal.returns-in-Some
+returns-in-Some c =
+    let e = all_left (inside_one c.args.allowances.now) c.entries_in.ensures _ _ _ (λ x b q k. search (rules, tests)) c.all.ensures.ran in
+    rw c.in-Some.is e

@@ -1,14 +1,14 @@
-use mathlib.Core.Path.{refl}
-use Rattle.rules.proofs.Paired.{asks_any, left_hit, left_on, left_none}
+use Rattle.std.proofs.Common.{rules}
+use borrow.Author.Tests.{tests}
+use mathlib.Core.Path.{◌∙◌}
+use Rattle.std.proofs.lemmas.Iterator.{YieldsList-from_slice}
+use Rattle.std.proofs.lemmas.Iterator.Search.{any_from_yields_List}
+use Rattle.segment.proofs.Runs.{any_is}
+use Rattle.capability.specs.Allowance.{inside_of}
 use Rattle.admission.proofs.lies_inside.Goals as goal
 
-pub returns-then-is_allowed : goal.returns-then-is_allowed
-returns-then-is_allowed c =
-    left_hit (asks_any _) _ _ _ _ _ c.loop-i.invariant c.loop-i-test.true c.requires.0 c.requires.1 refl c.is_allowed.ensures c.if-is_allowed.true
-
-pub loop-i-preserved : goal.loop-i-preserved
-loop-i-preserved c =
-    left_on (asks_any _) _ _ _ _ _ c.loop-i.invariant c.loop-i-test.true c.requires.0 c.requires.1 refl c.is_allowed.ensures c.if-is_allowed.false
-
 pub returns : goal.returns
-returns c = left_none (asks_any _) _ _ _ _ _ c.loop-i.invariant c.loop-i-test.false
+returns c =
+    any_from_yields_List (inside_of c.args.g) _ _ _ c.any.ensures.ran (YieldsList-from_slice c.args.allowances.now (cc))
+    (λ x b q k. search (rules, tests))
+    ∙ any_is (inside_of c.args.g) c.args.allowances.now
