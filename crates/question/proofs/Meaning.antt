@@ -1,13 +1,15 @@
 -- What the search finds is what the book says of the command that was read.
-use Rattle.std.specs.Prelude.{Ok, Err, Option, None, Some}
+use Rattle.std.specs.Prelude.{Result, Ok, Err, Option, None, Some}
+use Rattle.std.specs.Result.{result_ok}
 use Rattle.rules.specs.declared.Part.{Part}
-use Prim.Native.Nat.{ℕ, zero, suc, ◌+◌, ◌-◌, ◌*◌, ◌/◌, ◌≤◌}
+use Prim.Native.Nat.{ℕ, zero, suc, ◌+◌, ◌*◌, ◌/◌, ◌≤◌}
 use mathlib.Core.Path.{◌≡◌, refl, ap, sym, ◌∙◌}
 use mathlib.Core.Bool.{Bool, true, false, cond}
 use mathlib.Core.List.{List, [], ◌∷◌, map}
 use native.Mathlib.Omega.{arith}
 use lib.ListN.{length, take, length-take}
 use Rattle.rules.specs.declared.Range.{Range}
+use Rattle.rules.specs.declared.Refusal.{Refusal}
 use Rattle.rules.specs.declared.Verb.{Verb}
 use Rattle.rules.specs.Bytes.{Bytes, part}
 use Rattle.rules.specs.Tests.{first_of}
@@ -23,13 +25,13 @@ use Rattle.segment.specs.Lying.{ExtensionAt}
 use Rattle.capability.specs.Sought.{sought_by, admits_in}
 use Rattle.capability.proofs.Meaning.{said_in, sought_in, admits_is, first_by, says_reads, part_is}
 use Rattle.question.specs.declared.Place.{Place}
-use Rattle.question.specs.declared.Place.TheVariants.{Nowhere, InCdb, InOut}
+use Rattle.question.specs.declared.Place.TheVariants.{InCdb, InOut}
 use Rattle.question.specs.Places.{place_of, first_at, first_from, first_spot, first_in}
 
 -- ---- the first that admits a range, of some capabilities in their order
 module _ (v : Verb) (c : Command) where
   -- one more in front: k stands at w
-  chosen : (g : Range) (k : Held) (ks : List Held) (w : Place) → place_of (Some k) ≡ w → (rest : Place) → place_of (first_by v c g ks) ≡ rest
+  chosen : (g : Range) (k : Held) (ks : List Held) (w : Option Place) → place_of (Some k) ≡ w → (rest : Option Place) → place_of (first_by v c g ks) ≡ rest
       → place_of (first_by v c g (k ∷ ks)) ≡ cond (admits_in (sought_in v c) g k.bytes) w rest
   unfolding first_of
   chosen g k ks w is rest r = go (admits v c g k) (admits_is v c g k)
@@ -43,7 +45,7 @@ module _ (v : Verb) (c : Command) where
   first_places : (g : Range) (ps : List ℕ) → place_of (first_by v c g (map (extension c) ps)) ≡ first_at (admits_in (sought_in v c) g) (segment c) ps
   unfolding first_of first_at extension
   first_places g [] = refl
-  first_places g (a ∷ ps) = chosen g (extension c a) (map (extension c) ps) (InOut a) refl _ (first_places g ps)
+  first_places g (a ∷ ps) = chosen g (extension c a) (map (extension c) ps) (Some (InOut a)) refl _ (first_places g ps)
 
   first_spot_lem : (g : Range) (x : Option Part) → place_of (first_by v c g (extensions_of x c)) ≡ first_spot (admits_in (sought_in v c) g) (segment c) x
   unfolding first_of first_from
@@ -53,7 +55,7 @@ module _ (v : Verb) (c : Command) where
   -- the command's
   admitting_is : (g : Range) → place_of (admitting v c g) ≡ first_in c.cdb (segment c) (said_in v c) c.on g
   unfolding admitting capabilities first_in solo said_by
-  admitting_is g = chosen g (solo c) (extensions_of (found c).extension c) InCdb refl _ (first_spot_lem g (found c).extension)
+  admitting_is g = chosen g (solo c) (extensions_of (found c).extension c) (Some InCdb) refl _ (first_spot_lem g (found c).extension)
 
 -- ---- over a reading
 module _ (c : Command) (p : Parsed) (s : Says c p) where
@@ -65,51 +67,67 @@ module _ (c : Command) (p : Parsed) (s : Says c p) where
   unfolding question readable admitting_for
   says_question g = rw (s.passes, s.verb) (says_first g)
 
-pub refuses_question : (c : Command) (w : Rattle.rules.specs.declared.Refusal.Refusal) (g : Range) → first_of (header c) ≡ Some w
-    → Nowhere ≡ place_of (question c g)
+pub refuses_question : (c : Command) (w : Refusal) (g : Range) → first_of (header c) ≡ Some w
+    → None ≡ place_of (question c g)
 unfolding question readable
 refuses_question c w g e = rw e
 
--- ---- over the answer of the reading, and the part of Data-Out that the code takes for the segment
+-- ---- over the answer of the reading, asked by `ok`
+module _ (c : Command) (r : Result Parsed Refusal) (e : r ≡ reading_of c) where
+  pub reading_said : (p : Parsed) → result_ok r ≡ Some p → reading_of c ≡ Ok p
+  reading_said p = go r e
+    where
+      go : (x : Result Parsed Refusal) → x ≡ reading_of c → result_ok x ≡ Some p → reading_of c ≡ Ok p
+      go (Ok q) h k = let z : q ≡ p = cc in sym h ∙ ap Ok z
+      go (Err u) h k = let z : ◌≡◌ {A = ℕ} 0 1 = cc in absurd (omega arith)
+
+  pub reading_refused : (g : Range) → result_ok r ≡ None → None ≡ place_of (question c g)
+  reading_refused g = go r e
+    where
+      go : (x : Result Parsed Refusal) → x ≡ reading_of c → result_ok x ≡ None → None ≡ place_of (question c g)
+      go (Ok q) h k = let z : ◌≡◌ {A = ℕ} 0 1 = cc in absurd (omega arith)
+      go (Err u) h k = refuses_question c u g (unreadable c u (sym h))
+
+-- ---- and the part of Data-Out that the code takes for the segment
 module _ (c : Command) (p : Parsed) (e : reading_of c ≡ Ok p) where
-  pub part_question : (g : Range) (w : Place) → w ≡ first_in c.cdb (take (p.segment - 0) c.out) p c.on g → w ≡ place_of (question c g)
+  pub part_question : (g : Range) (w : Option Place) → w ≡ first_in c.cdb (take p.segment c.out) p c.on g → w ≡ place_of (question c g)
   part_question g w q = q ∙ ap (λ (s : Bytes). first_in c.cdb s p c.on g) (part_is c p e) ∙ sym (says_question c p (says c p e) g)
 
 -- ---- where a capability is handed back from, there are 104 bytes
 
-place_inside : (t : Bytes → Bool) (s : Bytes) (n start at : ℕ) → first_at t s (places_from n start) ≡ InOut at → at + 104 ≤ start + 104 * n
+place_inside : (t : Bytes → Bool) (s : Bytes) (n start at : ℕ) → first_at t s (places_from n start) ≡ Some (InOut at) → at + 104 ≤ start + 104 * n
 unfolding places_from first_at
 place_inside t s zero start at e = let z : ◌≡◌ {A = ℕ} 0 1 = cc in absurd (omega arith)
 place_inside t s (suc n) start at e = go (t (part start 104 s)) e (place_inside t s n (start + 104) at)
   where
-    go : (b : Bool) → cond b (InOut start) (first_at t s (places_from n (start + 104))) ≡ InOut at
-        → (first_at t s (places_from n (start + 104)) ≡ InOut at → at + 104 ≤ start + 104 + 104 * n) → at + 104 ≤ start + 104 * suc n
+    go : (b : Bool) → cond b (Some (InOut start)) (first_at t s (places_from n (start + 104))) ≡ Some (InOut at)
+        → (first_at t s (places_from n (start + 104)) ≡ Some (InOut at) → at + 104 ≤ start + 104 + 104 * n) → at + 104 ≤ start + 104 * suc n
     go true q r = let z : start ≡ at = cc in omega arith
     go false q r = let z = r q in omega arith
 
-spot_inside : (t : Bytes → Bool) (s : Bytes) (x : Option Part) (at : ℕ) → ExtensionAt s x → first_spot t s x ≡ InOut at → at + 104 ≤ length s
+spot_inside : (t : Bytes → Bool) (s : Bytes) (x : Option Part) (at : ℕ) → ExtensionAt s x → first_spot t s x ≡ Some (InOut at) → at + 104 ≤ length s
 unfolding first_from
 spot_inside t s None at l e = let z : ◌≡◌ {A = ℕ} 0 1 = cc in absurd (omega arith)
 spot_inside t s (Some d) at l e = let k = place_inside t s (d.size / 104) d.at at e in let i = l.inside in omega arith
 
 module _ (c : Command) (g : Range) where
   -- a place is handed back of a command that was read alone
-  asked_of : (w : Place) → place_of (question c g) ≡ w → (w ≡ Nowhere → ⊥) → (p : Parsed) × Says c p
-  asked_of w e n = go (reading_of c) refl
+  asked_of : (w : Place) → place_of (question c g) ≡ Some w → (p : Parsed) × Says c p
+  asked_of w e = go (reading_of c) refl
     where
-      go : (r : Reading) → reading_of c ≡ r → (p : Parsed) × Says c p
-      go (Err u) h = absurd (n (sym e ∙ sym (refuses_question c u g (unreadable c u h))))
+      go : (r : Result Parsed Refusal) → reading_of c ≡ r → (p : Parsed) × Says c p
+      go (Err u) h = let q : None ≡ Some w = refuses_question c u g (unreadable c u h) ∙ e in let z : ◌≡◌ {A = ℕ} 0 1 = cc in absurd (omega arith)
       go (Ok p) h = (p, says c p h)
 
-  pub in_cdb_sized : place_of (question c g) ≡ InCdb → length c.cdb ≡ 236
+  pub in_cdb_sized : place_of (question c g) ≡ Some InCdb → length c.cdb ≡ 236
   in_cdb_sized e =
-      let (p, s) = asked_of InCdb e (λ (q : InCdb ≡ Nowhere). let z : ◌≡◌ {A = ℕ} 0 1 = cc in omega arith) in
+      let (p, s) = asked_of InCdb e in
       (says_reads c p s).sized
 
-  pub in_out_inside : (at : ℕ) → place_of (question c g) ≡ InOut at → at + 104 ≤ length c.out
+  pub in_out_inside : (at : ℕ) → place_of (question c g) ≡ Some (InOut at) → at + 104 ≤ length c.out
   unfolding segment first_in
   in_out_inside at e =
-      let (p, s) = asked_of (InOut at) e (λ (q : InOut at ≡ Nowhere). let z : ◌≡◌ {A = ℕ} 0 1 = cc in omega arith) in
+      let (p, s) = asked_of (InOut at) e in
       let k = in_segment p s (sym (says_question c p s g) ∙ e) in
       let l : length (segment c) ≤ length c.out = ap_length in
       omega arith
@@ -117,10 +135,10 @@ module _ (c : Command) (g : Range) where
       ap_length : length (segment c) ≤ length c.out
       ap_length = simp length-take (omega arith)
 
-      in_segment : (p : Parsed) → Says c p → first_in c.cdb (segment c) p c.on g ≡ InOut at → at + 104 ≤ length (segment c)
+      in_segment : (p : Parsed) → Says c p → first_in c.cdb (segment c) p c.on g ≡ Some (InOut at) → at + 104 ≤ length (segment c)
       in_segment p s q = go (admits_in (sought_by p c.on) g (part 80 104 c.cdb)) q
         where
-          go : (b : Bool) → cond b InCdb (first_spot (admits_in (sought_by p c.on) g) (segment c) p.found.extension) ≡ InOut at
+          go : (b : Bool) → cond b (Some InCdb) (first_spot (admits_in (sought_by p c.on) g) (segment c) p.found.extension) ≡ Some (InOut at)
               → at + 104 ≤ length (segment c)
           go true r = let z : ◌≡◌ {A = ℕ} 0 1 = cc in absurd (omega arith)
           go false r = spot_inside _ (segment c) p.found.extension at (says_reads c p s).extension r

@@ -1,57 +1,45 @@
--- The search over the extension's capabilities, one step at a time.
-use Prim.Native.Nat.{ℕ, ◌+◌, ◌-◌, ◌*◌, ◌≤◌, ◌<◌}
-use mathlib.Core.Path.{◌≡◌, refl, sym, ◌∙◌}
-use mathlib.Core.Bool.{Bool, true, false, cond, and-false}
+-- The search over the extension's capabilities: the place of the first that passes a test, from its number.
+use Rattle.std.specs.Prelude.{◌≡◌, ℕ, zero, suc, ◌+◌, ◌*◌, ◌/◌, Bool, true, false, cond, ◌&&◌, Option, Some}
+use mathlib.Core.Path.{refl, ap, sym}
 use native.Mathlib.Omega.{arith}
-use lib.ListN.{length, take, drop}
-use Rattle.rules.specs.declared.Range.{Range}
-use Rattle.rules.specs.Bytes.{Bytes}
+use Rattle.std.specs.List.{position, position_from}
+use Rattle.std.proofs.lemmas.Iterator.Adapters.{position_from-zero}
+use Rattle.std.specs.Option.{option_map}
+use Rattle.rules.specs.declared.Part.{Part}
+use Rattle.rules.specs.Bytes.{Bytes, part}
 use Rattle.rules.specs.Segment.{places_from}
-use Rattle.rules.specs.Capability.{inside}
-use Rattle.capability.specs.declared.Sought.{Sought}
-use Rattle.capability.specs.Terms.{meets}
-use Rattle.capability.specs.Sought.{admits_in}
-use Rattle.capability.proofs.Pieces.{peel, none_left, piece}
-use Rattle.question.specs.declared.Place.TheVariants.{Nowhere, InOut}
-use Rattle.question.specs.Places.{first_at}
+use Rattle.capability.specs.Pieces.{pieces_from}
+use Rattle.question.specs.declared.Place.{Place}
+use Rattle.question.specs.declared.Place.TheVariants.{InOut}
+use Rattle.question.specs.Places.{first_at, first_from}
 
-module _ (t : Bytes → Bool) (s : Bytes) (start n : ℕ) where
-  -- what is left of the search, from a place on
-  pub record First (from left : ℕ) : Type 0 where
-    pub rest : first_at t s (places_from n start) ≡ first_at t s (places_from left from)
-    pub inside : from + 104 * left ≤ length s
+-- the two tests in the other order
+pub both : (inside matches : Bool) → (inside && matches) ≡ (matches && inside)
+both true true = refl
+both true false = refl
+both false true = refl
+both false false = refl
 
-  pub first_begun : start + 104 * n ≤ length s → First start n
-  first_begun l = record { rest = refl; inside = l }
+-- the place of the capability that stands as number i from a place on
+abbrev pub numbered : (at i : ℕ) → Place
+numbered at i = InOut (at + 104 * i)
 
-  module _ (from left : ℕ) (i : First from left) (more : 0 < left) (r : Bool) (e : r ≡ t (take (from + 104 - from) (drop from s))) where
-    first_split : first_at t s (places_from n start) ≡ cond r (InOut from) (first_at t s (places_from (left - 1) (from + 104)))
-    unfolding first_at
-    first_split = i.rest ∙ rw (peel left from more, e, piece s from)
+module _ (t : Bytes → Bool) (s : Bytes) where
+  -- of those from number i on, which stand from `at` on
+  places : (start n at i : ℕ) → at ≡ start + 104 * i
+      → option_map (numbered start) (position_from t i (pieces_from s n at)) ≡ first_at t s (places_from n at)
+  unfolding places_from first_at
+  places start zero at i e = refl
+  places start (suc n) at i e = go (t (part at 104 s)) (places start n (at + 104) (i + 1) (omega arith))
+    where
+      go : (b : Bool) → option_map (numbered start) (position_from t (i + 1) (pieces_from s n (at + 104))) ≡ first_at t s (places_from n (at + 104))
+          → option_map (numbered start) (cond b (Some i) (position_from t (i + 1) (pieces_from s n (at + 104))))
+          ≡ cond b (Some (InOut at)) (first_at t s (places_from n (at + 104)))
+      go true r = ap (λ (x : ℕ). Some (InOut x)) (sym e)
+      go false r = r
 
-    pub first_hit : r ≡ true → InOut from ≡ first_at t s (places_from n start)
-    first_hit h = sym (first_split ∙ rw h)
-
-    pub first_on : r ≡ false → First (from + 104) (left - 1)
-    first_on h = record { rest = first_split ∙ rw h; inside = omega (arith, i.inside) }
-
-  pub first_none : (from left : ℕ) → First from left → left ≤ 0 → Nowhere ≡ first_at t s (places_from n start)
-  unfolding first_at
-  first_none from left i h = sym (i.rest ∙ rw (none_left left from h))
-
--- whether a capability admits a range, from the answers of the two tests
-module _ (w : Sought) (g : Range) (k : Bytes) where
-  pub both_pass : (i m : Bool) → i ≡ inside g k → i ≡ true → m ≡ meets w k → m ≡ true → true ≡ admits_in w g k
-  unfolding admits_in
-  both_pass i m ei ti em tm = rw (← ei, ti, ← em, tm)
-
-  pub range_outside : (i : Bool) → i ≡ inside g k → i ≡ false → false ≡ admits_in w g k
-  unfolding admits_in
-  range_outside i ei ti = rw (← ei, ti) (sym (and-false (meets w k)))
-
-  pub no_match : (m : Bool) → m ≡ meets w k → m ≡ false → false ≡ admits_in w g k
-  unfolding admits_in
-  no_match m em tm = rw (← em, tm)
-
--- what `question::first_extension` meets its contract by
-pub ruleset searching = (first_hit, first_on, first_none, both_pass, range_outside, no_match)
+  -- r is the number that was found, o how it was taken apart
+  pub place_found : (d : Part) (r o : Option ℕ) → r ≡ position t (pieces_from s (d.size / 104) d.at) → r ≡ o
+      → option_map (numbered d.at) o ≡ first_from t s d
+  unfolding first_from
+  place_found d r o e is = rw (← is, e, position_from-zero t (pieces_from s (d.size / 104) d.at)) (places d.at (d.size / 104) d.at 0 (omega arith))
