@@ -207,16 +207,6 @@ module _ (c : Command) (p : Parsed) (e : front_of c.cdb ≡ Ok p) where
     unfolding segment_rows
     length_refused h = segment_refused c ContinuationLength (hit _ _ (row5 ∙ h))
 
--- a length that row 5 lets through
-pub opens : (cdb out : Bytes) (p : Parsed) → front_of cdb ≡ Ok p → (t : Bool)
-    → t ≡ (not (eqb p.segment 0) && (ltb p.segment 40 || ltb 2048 p.segment || ltb (length out) p.segment))
-    → t ≡ false → (p.segment ≡ 0 → ⊥) → Opened cdb out p
-opens cdb out p e t is h n =
-    let r : (ltb p.segment 40 || ltb 2048 p.segment || ltb (length out) p.segment) ≡ false = rw (ne_eqb _ _ n) at (sym is ∙ h) in
-    let r1 = or_false_parts (ltb p.segment 40 || ltb 2048 p.segment) _ r in
-    let r2 = or_false_parts (ltb p.segment 40) _ r1.0 in
-    record { front = e; begins = ltb-false _ _ r2.0; few = ltb-false _ _ r2.1; lent = ltb-false _ _ r1.1 }
-
 -- rows 6 to 8, of a command with a segment
 module _ (c : Command) (p : Parsed) (o : Opened c.cdb c.out p) where
   size : p.segment ≡ continuation c.cdb

@@ -25,18 +25,6 @@ laid_next at a b s h =
     ∙ drop-drop (length b) n s in
     rw (front, back, length-append a b, append_assoc (take at s) a b, add_assoc at (length a) (length b))
 
--- one byte stored
-pub set_laid : (at v : ℕ) (s : Bytes) → at < length s → set s at v ≡ laid at (v ∷ []) s
-unfolding laid
-set_laid at v s h = set_split s at v h ∙ sym (append_snoc (take at s) v (drop (suc at) s)) ∙ rw (add-one at)
-
--- one byte more
-pub laid_byte : (at n v : ℕ) (a s t : Bytes) → length a ≡ n → at + n < length s → t ≡ laid at a s → set t (at + n) v ≡ laid at (a ++ (v ∷ [])) s
-laid_byte at n v a s t e h is =
-    let k : at + length a ≤ length s = omega arith in
-    let l : at + n < length t = rw (is, laid_length at a s k) h in
-    set_laid (at + n) v t l ∙ rw (is, ← e) (laid_next at a (v ∷ []) s (omega arith))
-
 -- at the front there is nothing to keep before what is laid
 pub laid_first : (d s : Bytes) → laid 0 d s ≡ d ++ drop (length d) s
 unfolding laid
@@ -62,26 +50,10 @@ next_piece {at} {s} {a} {n} {m} {p} {t} {u} b r e l f =
       is = f ∙ rw (e, ← r.long, r.is) (laid_next at a b s r.room);
     }
 
--- ---- a loop's next turn
+-- ---- how long what is laid is
 
 pub length_zeros : (i : ℕ) → length (zeros i) ≡ i
 length_zeros i = length-replicate i 0
 
 pub length_part : (from n : ℕ) (s : Bytes) → from + n ≤ length s → length (part from n s) ≡ n
 length_part from n s h = length-take-le n (drop from s) (rw length-drop (omega arith))
-
--- one zero more
-pub zero_step : (at i : ℕ) (s t : Bytes) → at + i < length s → t ≡ laid at (zeros i) s → set t (at + i) 0 ≡ laid at (zeros (i + 1)) s
-zero_step at i s t h e =
-    laid_byte at i 0 (zeros i) s t (length_zeros i) h e ∙ ap (λ (d : Bytes). laid at d s) (replicate-append-replicate i 1 0)
-
--- one byte of x more
-pub copy_step : (at from i : ℕ) (s x t : Bytes) → at + i < length s → from + i < length x → t ≡ laid at (part from i x) s
-    → set t (at + i) (byte (from + i) x) ≡ laid at (part from (i + 1) x) s
-copy_step at from i s x t h k e =
-    laid_byte at i (byte (from + i) x) (part from i x) s t (length_part from i x (omega arith)) h e ∙ ap (λ (d : Bytes). laid at d s) more
-  where
-    more : part from i x ++ (byte (from + i) x ∷ []) ≡ part from (i + 1) x
-    more =
-        let l : i < length (drop from x) = rw length-drop (omega arith) in
-        rw (add-one i, take-suc (drop from x) i 0 l, get_or-drop from x i 0)

@@ -34,43 +34,9 @@ no_pair (suc n) [] ns = refl
 no_pair (suc n) (o ∷ os) [] = refl
 no_pair (suc n) (o ∷ os) (m ∷ ns) = no_pair n os ns
 
--- A question of a list that is asked of each range, beside those behind it: yes where one of them says so.
-pub record Asks (ask : List Range → Bool) (one : Range → List Range → Bool) : Type 0 where
-  pub none : ask [] ≡ false
-  pub more : (g : Range) (gs : List Range) → ask (g ∷ gs) ≡ (one g gs || ask gs)
-
--- whether one of them passes a test
-pub asks_any : (t : Range → Bool) → Asks (any t) (λ (g : Range) (gs : List Range). t g)
-unfolding any
-asks_any t = record { none = refl; more = λ (g : Range) (gs : List Range). refl }
-
 -- the first n ranges of two lists
 abbrev pub pairs : (os ns : List ℕ) (n : ℕ) → List Range
 pairs os ns n = paired (take n os) (take n ns)
-
--- The loop over them: what is left of the question at i answers the whole of it. `b` is the answer of the range at i.
-pub record Left (ask : List Range → Bool) (os ns : List ℕ) (n from i : ℕ) : Type 0 where
-  pub within : i ≤ n
-  pub rest : ask (drop from (pairs os ns n)) ≡ ask (drop i (pairs os ns n))
-
-module _ {ask : List Range → Bool} {one : Range → List Range → Bool} (asks : Asks ask one) (os ns : List ℕ) (n from : ℕ) where
-  pub left_all : from ≤ n → Left ask os ns n from from
-  left_all l = record { within = l; rest = refl }
-
-  module _ (i : ℕ) (k : Left ask os ns n from i) where
-    module _ (l : i < n) (ho : n ≤ length os) (hn : n ≤ length ns) {g : Range} (q : g ≡ pair_at os ns i) {b : Bool}
-        (e : b ≡ one g (drop (i + 1) (pairs os ns n))) where
-      here : ask (drop from (pairs os ns n)) ≡ (b || ask (drop (i + 1) (pairs os ns n)))
-      here = k.rest ∙ rw (next_pair n i os ns l ho hn, asks.more, ← add-one i, ← q, ← e)
-
-      pub left_hit : b ≡ true → true ≡ ask (drop from (pairs os ns n))
-      left_hit t = sym (here ∙ rw t)
-
-      pub left_on : b ≡ false → Left ask os ns n from (i + 1)
-      left_on f = record { within = omega arith; rest = here ∙ rw f }
-
-    pub left_none : n ≤ i → false ≡ ask (drop from (pairs os ns n))
-    left_none m = let e : i ≡ n = omega (arith, k.within) in sym (k.rest ∙ rw (e, no_pair n os ns, asks.none))
 
 -- one range more, behind the others
 paired_snoc : (os ns : List ℕ) (o n : ℕ) → length os ≡ length ns

@@ -2,7 +2,6 @@ pub mod Blank
 pub mod Faults
 pub mod Standing
 pub mod Walking
-pub mod Entries
 pub mod Lying
 pub mod Left
 pub mod Runs
