@@ -17,6 +17,7 @@ use rules::{Range, Record};
 
 // Notes what a capability allows behind what is noted by then, if it matches. So each is matched once for all ranges of a list.
 #[tactic(auto, unfolding(crate::specs::Allowed::noted))]
+#[inline]
 fn note(k: &[u8], by: Sought, allowances: &mut ArrayVec<Range, 9>)
     requires { (104 ≤ length k.now) × (array_vec_len allowances.old < 9) }
     ensures items { allowances.new.items ≡ allowances.old.items ++ noted by (k.now ∷ []) }

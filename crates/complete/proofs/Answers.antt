@@ -236,7 +236,7 @@ one_sought_by κs a r r' s s' e f = e ∙ sym f
 one_capabilities_in : (κs : _) (a : _) (r r' : _) (s s' : _)
     → capabilities_in.Post κs a r s → capabilities_in.Post κs a r' s'
     → r.now ≡ r'.now
-one_capabilities_in κs a r r' s s' e f = e.pieces ∙ sym f.pieces
+one_capabilities_in κs a r r' s s' e f = e.0 ∙ sym f.0
 
 -- ---- `admission`: row 11
 one_is_admitted : One is_admitted.Post

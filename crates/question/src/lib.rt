@@ -22,6 +22,7 @@ pub enum Place {
 
 // Whether a capability admits a range. The range is tested first: of several capabilities mostly one has it inside.
 #[tactic(auto, using(crate::proofs::Search::both), unfolding(capability::specs::Sought::admits_in))]
+#[inline]
 fn admits(k: &[u8], by: Sought, g: Range) -> bool
     requires { 104 ≤ length k.now }
     ensures { result ≡ admits_in by g k.now }
