@@ -119,12 +119,12 @@ module _ (c : Command) (g : Range) where
       go (Err u) h = let q : None ≡ Some w = refuses_question c u g (unreadable c u h) ∙ e in let z : ◌≡◌ {A = ℕ} 0 1 = cc in absurd (omega arith)
       go (Ok p) h = (p, says c p h)
 
-  pub in_cdb_sized : place_of (question c g) ≡ Some InCdb → length c.cdb ≡ 236
+  in_cdb_sized : place_of (question c g) ≡ Some InCdb → length c.cdb ≡ 236
   in_cdb_sized e =
       let (p, s) = asked_of InCdb e in
       (says_reads c p s).sized
 
-  pub in_out_inside : (at : ℕ) → place_of (question c g) ≡ Some (InOut at) → at + 104 ≤ length c.out
+  in_out_inside : (at : ℕ) → place_of (question c g) ≡ Some (InOut at) → at + 104 ≤ length c.out
   unfolding segment first_in
   in_out_inside at e =
       let (p, s) = asked_of (InOut at) e in
@@ -142,3 +142,11 @@ module _ (c : Command) (g : Range) where
               → at + 104 ≤ length (segment c)
           go true r = let z : ◌≡◌ {A = ℕ} 0 1 = cc in absurd (omega arith)
           go false r = spot_inside _ (segment c) p.found.extension at (says_reads c p s).extension r
+
+-- the same of an answer o to the question, taken apart as some w
+module _ (c : Command) (g : Range) (o : Option Place) (e : o ≡ place_of (question c g)) (w : Place) (is : o ≡ Some w) where
+  pub cdb_holds : w ≡ InCdb → length c.cdb ≡ 236
+  cdb_holds k = in_cdb_sized c g (sym e ∙ is ∙ ap Some k)
+
+  pub out_holds : (at : ℕ) → w ≡ InOut at → at + 104 ≤ length c.out
+  out_holds at k = in_out_inside c g at (sym e ∙ is ∙ ap Some k)
