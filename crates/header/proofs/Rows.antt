@@ -18,9 +18,11 @@ use Rattle.rules.specs.declared.Refusal.TheVariants.{CdbMalformed, ActionUnknown
 use Rattle.rules.specs.declared.Verb.{Verb}
 use Rattle.rules.specs.Bytes.{Bytes, byte, field}
 use Rattle.rules.specs.Tests.{Test, test, first_of}
-use Rattle.rules.specs.Command.{Command, action, continuation, partition_of, object_of, start_of, length_of, segment, verb_of, read_verb, verb, is_clear, is_punch}
+use Rattle.rules.specs.Command.{Command, action, continuation, partition_of, object_of, start_of, length_of, segment, verb_of, read_verb}
+use Rattle.rules.specs.Command.{verb, is_clear, is_punch}
 use Rattle.rules.specs.Reading.{walked, found, listed}
-use Rattle.rules.specs.Header.{cdb_malformed, action_unknown, front_rows, other_object, continued, continuation_wrong, segment_header_wrong, descriptor_faulty, list_forbidden, segment_rows, header}
+use Rattle.rules.specs.Header.{cdb_malformed, action_unknown, front_rows, other_object, continued, continuation_wrong, segment_header_wrong}
+use Rattle.rules.specs.Header.{descriptor_faulty, list_forbidden, segment_rows, header}
 use Rattle.rules.proofs.Passed.{skips, header_passed}
 use Rattle.rules.proofs.Course.{has_verb}
 use Rattle.rules.proofs.First.{hit, skip, none_left, ahead, behind}

@@ -130,8 +130,12 @@ says_broken (Ok (Extensions d)) s p c at q = let z : ◌≡◌ {A = ℕ} 0 1 = c
 says_on : (h : Result Here Cause) (s : Bytes) (p : Position) (m : Position) → step_by h s p ≡ Continue m → m.at ≡ next s p.at
 says_on (Ok End) s p m q = let z : ◌≡◌ {A = ℕ} 0 1 = cc in absurd (omega arith)
 says_on (Err c) s p m q = let z : ◌≡◌ {A = ℕ} 0 1 = cc in absurd (omega arith)
-says_on (Ok (Entries d)) s p m q = let e : to (next s p.at) (record { list = Some d; extension = p.found.extension }) ≡ m = cc in ap (λ (k : Position). k.at) (sym e)
-says_on (Ok (Extensions d)) s p m q = let e : to (next s p.at) (record { list = p.found.list; extension = Some d }) ≡ m = cc in ap (λ (k : Position). k.at) (sym e)
+says_on (Ok (Entries d)) s p m q =
+    let e : to (next s p.at) (record { list = Some d; extension = p.found.extension }) ≡ m = cc in
+    ap (λ (k : Position). k.at) (sym e)
+says_on (Ok (Extensions d)) s p m q =
+    let e : to (next s p.at) (record { list = p.found.list; extension = Some d }) ≡ m = cc in
+    ap (λ (k : Position). k.at) (sym e)
 
 met_so : (s : Bytes) (p : Position) (h : Result Here Cause) → met s p ≡ h → step_at s p ≡ step_by h s p
 met_so s p h q = step_met s p ∙ ap (λ (k : Result Here Cause). step_by k s p) q
@@ -225,4 +229,6 @@ pub list_stands : (n : ℕ) (s : Bytes) (d : Part) → met s (after n s start) �
 list_stands n s d m = stands n s (Ok (Entries d)) _ m (met_so s (after n s start) (Ok (Entries d)) m) (λ c e. (let z : ◌≡◌ {A = ℕ} 0 1 = cc in omega arith))
 
 pub extension_stands : (n : ℕ) (s : Bytes) (d : Part) → met s (after n s start) ≡ Ok (Extensions d) → Stands n s (Ok (Extensions d))
-extension_stands n s d m = stands n s (Ok (Extensions d)) _ m (met_so s (after n s start) (Ok (Extensions d)) m) (λ c e. (let z : ◌≡◌ {A = ℕ} 0 1 = cc in omega arith))
+extension_stands n s d m =
+    stands n s (Ok (Extensions d)) _ m (met_so s (after n s start) (Ok (Extensions d)) m)
+    (λ c e. (let z : ◌≡◌ {A = ℕ} 0 1 = cc in omega arith))

@@ -18,7 +18,8 @@ use Rattle.rules.specs.Command.{Command, verb, segment}
 use Rattle.rules.specs.Ranges.{end, covered}
 use Rattle.rules.specs.Capability.{permits, tagged, current, matches, allowed_start, bound, inside, has}
 use Rattle.rules.specs.Reading.{Held, walked, found, listed, ranges, solo, extension, extensions_of, capabilities}
-use Rattle.rules.specs.Header.{cdb_malformed, action_unknown, other_object, continued, continuation_wrong, segment_header_wrong, descriptor_faulty, list_forbidden, front_rows, segment_rows, header, readable}
+use Rattle.rules.specs.Header.{cdb_malformed, action_unknown, other_object, continued, continuation_wrong, segment_header_wrong}
+use Rattle.rules.specs.Header.{descriptor_faulty, list_forbidden, front_rows, segment_rows, header, readable}
 use Rattle.rules.specs.Admission.{fits, admits, admitting, admitted}
 use Rattle.rules.specs.Rows.{Room, not_admitted}
 use Rattle.rules.specs.Answer.{lengthened}

@@ -11,7 +11,8 @@ use lib.Seq.{get_or-take}
 use Rattle.rules.specs.declared.Record.{Record}
 use Rattle.rules.specs.declared.Verb.TheVariants.{Read, Write}
 use Rattle.rules.specs.Bytes.{byte, any}
-use Rattle.rules.specs.Session.{Caller, first, second, Sent, State, after, firsts, replies, lengths, is, lets, may, punches, same_commands, no_punch, apart, same_size, same_bytes, same_lengths, Isolation}
+use Rattle.rules.specs.Session.{Caller, first, second, Sent, State, after, firsts, replies, lengths, is, lets, may, punches, same_commands}
+use Rattle.rules.specs.Session.{no_punch, apart, same_size, same_bytes, same_lengths, Isolation}
 use Rattle.rules.proofs.Booleans.{fails, lt_or_le}
 use Rattle.rules.proofs.Members.{any_of, none_of}
 use Rattle.rules.proofs.Effect.{behind}

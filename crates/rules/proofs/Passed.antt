@@ -5,7 +5,8 @@ use mathlib.Core.Bool.{Bool, true, false, cond}
 use mathlib.Core.List.{List, ◌∷◌}
 use Rattle.rules.specs.Tests.{Test, first_of}
 use Rattle.rules.specs.Command.{Command}
-use Rattle.rules.specs.Header.{cdb_malformed, action_unknown, other_object, continuation_wrong, segment_header_wrong, descriptor_faulty, list_forbidden, front_rows, segment_rows, header}
+use Rattle.rules.specs.Header.{cdb_malformed, action_unknown, other_object, continuation_wrong, segment_header_wrong, descriptor_faulty}
+use Rattle.rules.specs.Header.{list_forbidden, front_rows, segment_rows, header}
 use Rattle.rules.proofs.First.{some_none}
 use Rattle.rules.specs.Rows.{Room, object_unfit, list_with_start, list_fault, not_admitted, starts_beyond, buffer_short, no_room, rows, refusal}
 

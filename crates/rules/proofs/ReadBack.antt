@@ -14,7 +14,8 @@ use Rattle.rules.specs.Bytes.{Bytes, byte, field}
 use Rattle.rules.specs.Tests.{Test, first_of}
 use Rattle.rules.specs.Command.{action, continuation, verb_of, verb, asks, is_write, segment}
 use Rattle.rules.specs.Ranges.{total, overlapping}
-use Rattle.rules.specs.Header.{continued, cdb_malformed, action_unknown, other_object, continuation_wrong, segment_header_wrong, descriptor_faulty, list_forbidden}
+use Rattle.rules.specs.Header.{continued, cdb_malformed, action_unknown, other_object, continuation_wrong, segment_header_wrong}
+use Rattle.rules.specs.Header.{descriptor_faulty, list_forbidden}
 use Rattle.rules.specs.Rows.{list_with_start, list_fault}
 use Rattle.rules.specs.Writer.{Request, entries, length_for, segment_for, cdb_for, refusals, writes, written}
 use Rattle.rules.specs.ReadBack.{Bounded, ranges_for, sent, Same, ReadsBack}

@@ -21,7 +21,8 @@ use Rattle.rules.specs.Rows.{Room, object_unfit, not_admitted, starts_beyond, bu
 use Rattle.rules.specs.Answer.{refused, read, wrote, cut, carried, settled, answered}
 use Rattle.rules.specs.Writer.{Request, entries, length_for}
 use Rattle.rules.specs.Ranges.{total}
-use Rattle.rules.specs.ReadBack.{Same, ranges_for, capabilities_for, matches_for, admitted_for, raised_for, rows_for, carried_for, settled_for, answered_for, Answers}
+use Rattle.rules.specs.ReadBack.{Same, ranges_for, capabilities_for, matches_for, admitted_for, raised_for, rows_for, carried_for}
+use Rattle.rules.specs.ReadBack.{settled_for, answered_for, Answers}
 use Rattle.rules.proofs.Accepted.{Accepted}
 use Rattle.rules.proofs.ReadBackRead.{as_command}
 use Rattle.rules.proofs.ReadBack.{as_written, same}

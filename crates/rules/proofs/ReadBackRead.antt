@@ -23,7 +23,8 @@ use Rattle.rules.proofs.Standing.{Stands}
 use Rattle.rules.proofs.ReadBackWalk.{list_data, extension_data, walk_whole}
 use Rattle.rules.proofs.ReadBackParts.{small_paired, entries_there, pieces_there, held_bytes}
 use Rattle.rules.proofs.ReadBackFields.{length_read, start_read, continuation_read, capability_read}
-use Rattle.rules.proofs.ReadBackShape.{list_bytes, rest_bytes, head, whole, Shape, there, nowhere, shape, head_length, list_ok, no_more, extension_ok, whole_bounds, segment_small}
+use Rattle.rules.proofs.ReadBackShape.{list_bytes, rest_bytes, head, whole, Shape, there, nowhere, shape, head_length, list_ok, no_more}
+use Rattle.rules.proofs.ReadBackShape.{extension_ok, whole_bounds, segment_small}
 
 -- the command itself: CDB, and segment with command data behind it
 abbrev pub as_command : Request → (d : Bytes) → Record → Command

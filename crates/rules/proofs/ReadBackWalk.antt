@@ -13,7 +13,8 @@ use Rattle.rules.specs.declared.Here.TheVariants.{Entries, Extensions}
 use Rattle.rules.specs.declared.Found.{Found}
 use Rattle.rules.specs.Bytes.{Bytes, zeros, to_be}
 use Rattle.rules.specs.Tests.{first_of}
-use Rattle.rules.specs.Segment.{kind_at, pad_at, size_at, data_at, next, faults, unless, entries_here, extensions_here, here, once, follow, walk_from, walk, nothing}
+use Rattle.rules.specs.Segment.{kind_at, pad_at, size_at, data_at, next, faults, unless, entries_here, extensions_here, here, once, follow}
+use Rattle.rules.specs.Segment.{walk_from, walk, nothing}
 use Rattle.rules.specs.Writer.{descriptor}
 use Rattle.rules.proofs.BigEndian.{length_to_be}
 use Rattle.rules.proofs.Spelled.{length_descriptor}

@@ -16,7 +16,8 @@ use Rattle.rules.specs.Bytes.{Bytes, byte, laid, any}
 use Rattle.rules.specs.Ranges.{end, total, meet, overlapping, reach, span, positions, covered}
 use Rattle.rules.specs.Object.{scattered}
 use Rattle.rules.proofs.Lists.{laid_nothing, laid_length, laid_below, laid_within, laid_above}
-use Rattle.rules.proofs.Positions.{Of, covered_empty, outside_cases, positions_length, Inside, Later, uncovered_here, uncovered_later, inside_ends, inside_later, position_here, position_later, place_cases, apart, apart_parts}
+use Rattle.rules.proofs.Positions.{Of, covered_empty, outside_cases, positions_length, Inside, Later, uncovered_here, uncovered_later}
+use Rattle.rules.proofs.Positions.{inside_ends, inside_later, position_here, position_later, place_cases, apart, apart_parts}
 
 -- ---- one range
 

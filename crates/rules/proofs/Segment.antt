@@ -1,7 +1,8 @@
 -- Law 7: a list or an extension that row 7 lets through has pad zero; the list's entries and the capabilities lie inside the segment.
 -- And a walk that may take as many steps as there are bytes left is never cut short by that limit.
 use Rattle.std.specs.Prelude.{Result, Ok, Err, Option, None, Some}
-use Rattle.rules.specs.Segment.{fault, Walk, kind_at, pad_at, size_at, data_at, next, faults, unless, entries_here, extensions_here, here, once, follow, walk_from, nothing, walk}
+use Rattle.rules.specs.Segment.{fault, Walk, kind_at, pad_at, size_at, data_at, next, faults, unless, entries_here, extensions_here, here}
+use Rattle.rules.specs.Segment.{once, follow, walk_from, nothing, walk}
 use mathlib.Core.Path.{◌≡◌, refl, ap, subst}
 use mathlib.Core.Logic.{◌≢◌}
 use mathlib.Core.Bool.{Bool, true, false, and-eq-true_iff, cond, ◌&&◌, not}

@@ -4,7 +4,8 @@ use Prim.Native.Char.{code}
 use Prim.Native.String.{String}
 use Rattle.rules.specs.Bytes.{Bytes}
 use Rattle.rules.specs.Session
-use Rattle.rules.specs.Session.{Caller, first, second, Sent, Premise, same_commands, no_punch, apart, same_size, same_bytes, same_lengths, Holds, SameReplies}
+use Rattle.rules.specs.Session.{Caller, first, second, Sent, Premise, same_commands, no_punch, apart, same_size, same_bytes, same_lengths}
+use Rattle.rules.specs.Session.{Holds, SameReplies}
 use Rattle.rules.specs.Writer.{Request, cdb_for, segment_for, length_for}
 use Rattle.rules.specs.Command.{READ, WRITE, PUNCH}
 use Rattle.rules.specs.Samples.{text, slice, capability, request, plain, called, rota}

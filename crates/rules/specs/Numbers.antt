@@ -2,7 +2,9 @@
 use Rattle.std.specs.Prelude.{ℕ, cond, List, [], ◌∷◌, map, eqb}
 use Rattle.std.specs.Option.{unwrap_or}
 use Rattle.rules.specs.declared.Refusal.{Refusal}
-use Rattle.rules.specs.declared.Refusal.TheVariants.{ObjectUnfit, CdbMalformed, ActionUnknown, OtherObject, ContinuationLength, SegmentHeader, Descriptor, ListForbidden, ListWithStart, ListFault, NotAdmitted, StartsBeyond, BufferShort, NoRoom}
+use Rattle.rules.specs.declared.Refusal.TheVariants.{ObjectUnfit, CdbMalformed, ActionUnknown, OtherObject, ContinuationLength}
+use Rattle.rules.specs.declared.Refusal.TheVariants.{SegmentHeader, Descriptor, ListForbidden, ListWithStart, ListFault, NotAdmitted}
+use Rattle.rules.specs.declared.Refusal.TheVariants.{StartsBeyond, BufferShort, NoRoom}
 use Rattle.rules.specs.declared.Outcome.{Outcome}
 use Rattle.rules.specs.declared.Outcome.TheVariants.{Done, Ended, Refused}
 use Rattle.rules.specs.Tests.{test, first_of}

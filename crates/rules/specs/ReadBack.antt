@@ -1,6 +1,8 @@
 -- A written command read back (document 01, "The host's writer": "Read back, every field, capability and list entry that an accepted command
 -- used is as given"), and the tie between the halves: what the engine answers to it is the answer to the request itself.
-use Rattle.std.specs.Prelude.{Ok, Option, None, Some, ℕ, zero, suc, ◌+◌, ◌*◌, ◌-◌, ◌/◌, ◌^◌, ◌<◌, ◌≡◌, Bool, false, cond, ◌&&◌, ◌||◌, not, eqb, ltb, List, [], ◌∷◌, ◌++◌, map, length, take, drop, get_or}
+use Rattle.std.specs.Prelude.{Option, None, Some, Ok}
+use Rattle.std.specs.Prelude.{ℕ, zero, suc, ◌+◌, ◌*◌, ◌-◌, ◌/◌, ◌^◌, ◌<◌, ◌≡◌, Bool, false, cond, ◌&&◌, ◌||◌, not, eqb, ltb, List, [], ◌∷◌}
+use Rattle.std.specs.Prelude.{◌++◌, map, length, take, drop, get_or}
 use Rattle.rules.specs.declared.Record.{Record}
 use Rattle.rules.specs.declared.Range.{Range}
 use Rattle.rules.specs.declared.Verb.{Verb}
@@ -11,7 +13,8 @@ use Rattle.rules.specs.declared.Outcome.TheVariants.{Done, Ended, Refused}
 use Rattle.rules.specs.declared.Found.{Found}
 use Rattle.rules.specs.Bytes.{Bytes, zeros, any, all}
 use Rattle.rules.specs.Tests.{Test, test, first_of}
-use Rattle.rules.specs.Command.{Command, partition_of, object_of, length_of, start_of, continuation, verb_of, verb, segment, payload, is_read, is_write, is_clear, is_punch}
+use Rattle.rules.specs.Command.{Command, partition_of, object_of, length_of, start_of, continuation, segment, payload}
+use Rattle.rules.specs.Command.{verb_of, verb, is_read, is_write, is_clear, is_punch}
 use Rattle.rules.specs.Ranges.{reach}
 use Rattle.rules.specs.Reading.{walked, ranges, Held, capabilities}
 use Rattle.rules.specs.Capability.{matches, inside}

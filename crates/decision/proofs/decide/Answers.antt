@@ -2,7 +2,8 @@ use Rattle.std.proofs.Common.{rules, sym, ◌∙◌}
 use Rattle.header.specs.Reading.{command}
 use Rattle.segment.proofs.Lying.{lies}
 use Rattle.decision.specs.Decisions.{room, Open, LetIn}
-use Rattle.decision.proofs.Table.{object_fits, not_readable, part_ends, part_lists, held, start_refused, starts_right, list_refused, not_let_in, let_in, part_reads, part_writes, part_clears, part_punches}
+use Rattle.decision.proofs.Table.{object_fits, not_readable, part_ends, part_lists, held, start_refused, starts_right, list_refused}
+use Rattle.decision.proofs.Table.{not_let_in, let_in, part_reads, part_writes, part_clears, part_punches}
 use Rattle.decision.proofs.decide.Goals as goal
 use Rattle.decision.proofs.decide.Goals.{In_ok-said, Else-not-is_admitted}
 

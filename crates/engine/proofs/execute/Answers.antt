@@ -1,7 +1,8 @@
 -- `engine::execute` meets its contract: each action leaves the answer that the decision asks for.
 use Rattle.std.proofs.Common.{rules, ap, ◌∙◌}
 use Rattle.std.specs.Prelude.{Ok}
-use Rattle.engine.proofs.Deciding.{refused_told, read_ends, for_read, was_read, write_ends, for_write, was_written, for_clear, was_cleared, for_punch, was_punched}
+use Rattle.engine.proofs.Deciding.{refused_told, read_ends, for_read, was_read, write_ends, for_write, was_written, for_clear, was_cleared}
+use Rattle.engine.proofs.Deciding.{for_punch, was_punched}
 use Rattle.engine.proofs.execute.Goals as goal
 
 pub slice_bounds-read-end : goal.slice_bounds-read-end
