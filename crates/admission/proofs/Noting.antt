@@ -2,6 +2,7 @@
 use Rattle.std.specs.Prelude.{◌≡◌, ℕ, Bool, true, false, cond, ◌+◌, ◌≤◌, ◌<◌, List, [], ◌∷◌, ◌++◌, length, drop, get_or}
 use mathlib.Core.Path.{refl, ap, sym, ◌∙◌}
 use mathlib.Core.List.{append_assoc, append-nil}
+use native.Mathlib.Omega.{arith}
 use Rattle.std.proofs.lemmas.List.{at_drop_more, at_drop_all}
 use Rattle.rules.specs.declared.Range.{Range}
 use Rattle.rules.specs.Bytes.{Bytes}
@@ -17,6 +18,16 @@ noted_cons w k ks = go (meets w k)
     go : (b : Bool) → cond b (allowance k ∷ noted w ks) (noted w ks) ≡ cond b (allowance k ∷ []) [] ++ noted w ks
     go true = refl
     go false = refl
+
+-- no more is noted than there are capabilities
+pub length_noted : (w : Sought) (ks : List Bytes) → length (noted w ks) ≤ length ks
+unfolding noted
+length_noted w [] = omega arith
+length_noted w (k ∷ ks) = go (meets w k) (length_noted w ks)
+  where
+    go : (b : Bool) → length (noted w ks) ≤ length ks → length (cond b (allowance k ∷ noted w ks) (noted w ks)) ≤ length (k ∷ ks)
+    go true l = omega arith
+    go false l = omega arith
 
 -- what is noted by then, a, with what the next allows, and with what is noted of the others
 pub noted_next : (w : Sought) (a : List Range) (k : Bytes) (ks : List Bytes) → (a ++ noted w (k ∷ [])) ++ noted w ks ≡ a ++ noted w (k ∷ ks)

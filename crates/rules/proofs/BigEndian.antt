@@ -29,6 +29,19 @@ field_more at i s x b h ex eb =
     let k : i < length (drop at s) = rw length-drop (omega arith) in
     rw (ex, eb, add-one, take-suc (drop at s) i 0 k, be_snoc, get_or-drop)
 
+-- a field is its front, moved up by the width of its back, and its back
+pub field_split : (at m n : ℕ) (s : Bytes) → at + (m + n) ≤ length s → field at (m + n) s ≡ field at m s * 256 ^ n + field (at + m) n s
+field_split at m zero s h = rw (add-zero, field_none) (omega arith)
+field_split at m (suc n) s h =
+    let front : at + (m + n) < length s = omega arith in
+    let back : at + m + n < length s = omega arith in
+    let same : at + (m + n) ≡ at + m + n = omega arith in
+    let whole : field at (m + n) s * 256 + get_or s (at + (m + n)) 0 ≡ field at (m + suc n) s =
+    field_more at (m + n) s _ _ front refl refl ∙ ap (λ (k : ℕ). field at k s) (omega arith) in
+    let half : field (at + m) n s * 256 + get_or s (at + m + n) 0 ≡ field (at + m) (suc n) s =
+    field_more (at + m) n s _ _ back refl refl ∙ ap (λ (k : ℕ). field (at + m) k s) (omega arith) in
+    rw (← whole, ← half, pow-suc, field_split at m n s (omega arith), same, ← mul_assoc) (omega arith)
+
 pub length_to_be : (n x : ℕ) → length (to_be n x) ≡ n
 unfolding to_be
 length_to_be zero x = refl
