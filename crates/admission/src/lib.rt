@@ -29,7 +29,7 @@ fn note(k: &[u8], by: Sought, allowances: &mut ArrayVec<Range, 9>)
 }
 
 // What the command's matching capabilities allow, nine at most.
-#[tactic(auto, using(crate::proofs::Noting::noting))]
+#[tactic(auto, using(crate::proofs::Noting::noting, capability::proofs::Pieces::chunks_are))]
 fn note_all(cdb: &[u8], segment: &[u8], said: Parsed, by: Sought) -> ArrayVec<Range, 9>
     requires { Reads cdb.now segment.now said }
     ensures { result.items ≡ noted by (pieces_in cdb.now segment.now said) }
@@ -37,7 +37,7 @@ fn note_all(cdb: &[u8], segment: &[u8], said: Parsed, by: Sought) -> ArrayVec<Ra
     let mut allowances = ArrayVec::new();
     note(&cdb[80..184], by, &mut allowances);
     if let Some(part) = said.found.extension {
-        for k in capability::capabilities_in(segment, part) {
+        for k in segment[part.at..part.at + part.size].as_chunks::<104>().0 {
             note(k, by, &mut allowances);
         }
     }

@@ -1,17 +1,15 @@
-// One capability, 104 bytes: whether it matches a command, what range it allows, and whether a range lies inside that; and those of
-// an extension, where they stand.
+// One capability, 104 bytes: whether it matches a command, what range it allows, and whether a range lies inside that.
 
 #![tactic(auto)]
 
-ghost use Rattle.std.specs.Prelude.{◌≡◌, ◌≤◌, ◌+◌, ◌/◌, ◌^◌, leb, length};
+ghost use Rattle.std.specs.Prelude.{◌≡◌, ◌≤◌, ◌+◌, ◌^◌, leb, length};
 ghost use Rattle.rules.specs.Capability.{permits, for_user_object, names, tagged, current, inside};
 ghost use Rattle.capability.specs.Terms.{holder, meets};
 ghost use Rattle.capability.specs.Allowance.{allowance, inside_of};
 ghost use Rattle.capability.specs.Sought.{sought_by};
-ghost use Rattle.capability.specs.Pieces.{pieces_from};
 
 use header::Parsed;
-use rules::{Part, Range, Record, Verb};
+use rules::{Range, Record, Verb};
 
 // What a capability is held against: the verb and the IDs of a command, the tag and the epoch of a record.
 #[derive(Clone, Copy)]
@@ -158,16 +156,4 @@ pub fn sought_by(said: Parsed, on: Record) -> Sought
         tag: on.tag,
         epoch: on.epoch,
     }
-}
-
-// ---- an extension, capability by capability
-
-// The capabilities whose bytes are a part of the segment, one after another.
-#[tactic(auto, using(crate::proofs::Pieces::chunks_are))]
-pub fn capabilities_in<'a>(s: &'a [u8], part: Part) -> &'a [[u8; 104]]
-    requires { part.at + part.size ≤ length s.now }
-    ensures pieces { result.now ≡ pieces_from s.now (part.size / 104) part.at }
-    ensures count { length result.now ≡ part.size / 104 }
-{
-    s[part.at..part.at + part.size].as_chunks().0
 }

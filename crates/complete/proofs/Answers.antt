@@ -4,11 +4,13 @@
 use mathlib.Core.Path.{◌≡◌, refl, ap, sym, ◌∙◌}
 use native.Mathlib.Omega.{arith}
 use lib.ListN.{length-replicate}
+use Rattle.rules.specs.declared.Range.{Range}
 use Rattle.rules.specs.declared.Record.{Record}
 use Rattle.rules.specs.Bytes.{Bytes, zeros}
 use Rattle.rules.specs.Answer.{Answered}
 use Rattle.rules.specs.Writer.{Written}
-use Rattle.std.specs.Prelude.{ℕ, Result, Ok, Err}
+use Rattle.std.specs.Prelude.{ℕ, List, [], ◌∷◌, Option, None, Some, Result, Ok, Err}
+use Rattle.std.specs.Option.{MatchOption}
 use Rattle.writer.specs.declared.Unwritten.{Unwritten}
 use Rattle.writer.specs.declared.Unwritten.TheVariants.{NotACommand, BuffersShort}
 use Rattle.segment.specs.Left.{entries_left}
@@ -16,6 +18,8 @@ use Rattle.writer.specs.Post.{number_of, size_of}
 use Rattle.holmweder.specs.Face.{Seen}
 use Rattle.rules.proofs.Record.with_length.Reads as with_length
 use Rattle.rules.proofs.Record.shortened.Reads as shortened
+use Rattle.rules.proofs.VerbTryFromU64.try_from.Reads as try_from
+use Rattle.rules.proofs.RefusalFromFault.from.Reads as refusal_from
 use Rattle.wire.proofs.get16.Reads as get16
 use Rattle.wire.proofs.get32.Reads as get32
 use Rattle.wire.proofs.get64.Reads as get64
@@ -34,6 +38,7 @@ use Rattle.segment.proofs.step_from.Reads as step_from
 use Rattle.segment.proofs.first_position.Reads as first_position
 use Rattle.segment.proofs.walk_over.Reads as walk_over
 use Rattle.segment.proofs.entries_in.Reads as entries_in
+use Rattle.segment.proofs.ListEntriesIterator.next.Reads as next
 use Rattle.reader.proofs.Reader.first_of.Reads as first_of
 use Rattle.reader.proofs.Reader.step.Reads as step
 use Rattle.reader.proofs.Reader.moved.Reads as moved
@@ -54,7 +59,6 @@ use Rattle.capability.proofs.allowance_of.Reads as allowance_of
 use Rattle.capability.proofs.is_allowed.Reads as is_allowed
 use Rattle.capability.proofs.is_inside.Reads as is_inside
 use Rattle.capability.proofs.sought_by.Reads as sought_by
-use Rattle.capability.proofs.capabilities_in.Reads as capabilities_in
 use Rattle.admission.proofs.is_admitted.Reads as is_admitted
 use Rattle.question.proofs.place_that_admits.Reads as place_that_admits
 use Rattle.question.proofs.capability_that_admits.Reads as capability_that_admits
@@ -93,12 +97,18 @@ Left {K} {A} {R} {S} P v = (κs : K) (a : A κs) (r r' : R κs) (s s' : S κs) �
 abbrev Both : {K : Type 0} {A R S : K → Type 0} → ((κs : K) → A κs → R κs → S κs → Type 0) → ((κs : K) → S κs → Bytes) → Type 0
 Both {K} {A} {R} {S} P v = (κs : K) (a : A κs) (r r' : R κs) (s s' : S κs) → P κs a r s → P κs a r' s' → (r ≡ r') × (v κs s ≡ v κs s')
 
--- ---- `rules`: the record's methods
+-- ---- `rules`: the record's methods, a verb by its number, a fault's refusal
 one_with_length : One with_length.Post
 one_with_length κs a r r' s s' e f = e ∙ sym f
 
 one_shortened : One shortened.Post
 one_shortened κs a r r' s s' e f = e ∙ sym f
+
+one_try_from : One try_from.Post
+one_try_from κs a r r' s s' e f = e ∙ sym f
+
+one_refusal_from : One refusal_from.Post
+one_refusal_from κs a r r' s s' e f = e ∙ sym f
 
 -- ---- `wire`: numbers in byte slices
 one_get16 : One get16.Post
@@ -155,9 +165,39 @@ one_first_position κs a r r' s s' e f = e ∙ sym f
 one_walk_over : One walk_over.Post
 one_walk_over κs a r r' s s' e f = e ∙ sym f
 
--- two iterators that give the same entries
-one_entries_in : (κs : _) (a : _) (r r' : _) (s s' : _) → entries_in.Post κs a r s → entries_in.Post κs a r' s' → entries_left r ≡ entries_left r'
-one_entries_in κs a r r' s s' e f = e ∙ sym f
+-- its bytes, the place where they stand, and so the entries that it gives
+one_entries_in : (κs : _) (a : _) (r r' : _) (s s' : _)
+    → entries_in.Post κs a r s → entries_in.Post κs a r' s'
+    → (r.rest.now ≡ r'.rest.now)
+    × (r.rest.ref_ptr ≡ r'.rest.ref_ptr)
+    × (entries_left r ≡ entries_left r')
+one_entries_in κs a r r' s s' e f = (e.0.bytes ∙ sym f.0.bytes, e.0.place ∙ sym f.0.place, e.1 ∙ sym f.1)
+
+-- what is given is the first of what was left, and what is left are the others; or nothing of nothing
+head_of : List Range → Option Range
+head_of [] = None
+head_of (g ∷ gs) = Some g
+
+first_given : (r : Option Range) (gs more : List Range) → MatchOption r ((gs ≡ []) × (more ≡ [])) (λ g. gs ≡ g ∷ more) → r ≡ head_of gs
+unfolding head_of
+first_given None gs more e = sym (ap head_of e.0)
+first_given (Some g) gs more e = sym (ap head_of e)
+
+more_of : List Range → List Range
+more_of [] = []
+more_of (g ∷ gs) = gs
+
+more_given : (r : Option Range) (gs more : List Range) → MatchOption r ((gs ≡ []) × (more ≡ [])) (λ g. gs ≡ g ∷ more) → more ≡ more_of gs
+unfolding more_of
+more_given None gs more e = e.1 ∙ sym (ap more_of e.0)
+more_given (Some g) gs more e = sym (ap more_of e)
+
+one_next : (κs : _) (a : _) (r r' : _) (s s' : _)
+    → next.Post κs a r s → next.Post κs a r' s'
+    → (r ≡ r')
+    × (entries_left s.0.now ≡ entries_left s'.0.now)
+one_next κs a r r' s s' e f =
+    (first_given r _ _ e.0 ∙ sym (first_given r' _ _ f.0), more_given r _ _ e.0 ∙ sym (more_given r' _ _ f.0))
 
 -- ---- `reader`: the reader
 one_nth_of : One nth_of.Post
@@ -217,7 +257,7 @@ one_reach_more κs a r r' s s' e f = e ∙ sym f
 one_reach_in : One reach_in.Post
 one_reach_in κs a r r' s s' e f = e ∙ sym f
 
--- ---- `capability`: one capability, and those of an extension
+-- ---- `capability`: one capability
 one_is_match : One is_match.Post
 one_is_match κs a r r' s s' e f = e ∙ sym f
 
@@ -232,11 +272,6 @@ one_is_inside κs a r r' s s' e f = e ∙ sym f
 
 one_sought_by : One sought_by.Post
 one_sought_by κs a r r' s s' e f = e ∙ sym f
-
-one_capabilities_in : (κs : _) (a : _) (r r' : _) (s s' : _)
-    → capabilities_in.Post κs a r s → capabilities_in.Post κs a r' s'
-    → r.now ≡ r'.now
-one_capabilities_in κs a r r' s s' e f = e.0 ∙ sym f.0
 
 -- ---- `admission`: row 11
 one_is_admitted : One is_admitted.Post

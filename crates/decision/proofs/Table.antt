@@ -1,5 +1,5 @@
 -- The table of rows over a command that was read: each row's test by what was read, and the decision from the first that holds.
-use Rattle.std.specs.Prelude.{Err, is_some, Option, None, Some, Ok}
+use Rattle.std.specs.Prelude.{Result, Err, is_some, Option, None, Some, Ok}
 use Rattle.rules.specs.declared.Part.{Part}
 use Prim.Native.Nat.{◌-◌, ◌≤◌, ◌<◌}
 use mathlib.Core.Path.{◌≡◌, refl, ap, sym, ◌∙◌}
@@ -152,6 +152,14 @@ module _ (c : Command) (m : Room) (p : Parsed) (o : Open c m p) where
 
       pub let_in : a ≡ true → LetIn c m p
       let_in h = record { readable = o; start = starts; list = fault_is ∙ sound; admitted = row11 ∙ ap not h }
+
+-- row 11, over the answers that the code has when it tests it
+pub not_let_in_of : (c : Command) (m : Room) (r : Result Parsed Refusal) (p : Parsed) (b t a : Bool) → m.slice ≤ 16777216 → c.on.length ≤ m.slice
+    → r ≡ reading_of c → r ≡ Ok p → b ≡ (is_some p.found.list && not (eqb p.start 0)) → b ≡ false
+    → t ≡ fault_at p.found.list (take (p.segment - 0) c.out) p → t ≡ false → a ≡ admitted p.verb c → a ≡ false → Err NotAdmitted ≡ decision_of c m
+not_let_in_of c m r p b t a h k e was f starts g sound i not_in =
+    let o : Open c m p = record { object = object_fits c m h k; reading = sym e ∙ was } in
+    not_let_in c m p o (starts_right c m p o b f starts) t g sound a i not_in
 
 -- ---- rows 12 to 14
 module _ (c : Command) (m : Room) (p : Parsed) (l : LetIn c m p) where

@@ -92,8 +92,10 @@ impl<'a> Command<'a> {
         Some(raised)
     }
 
-    // Rows 12 to 14, verb by verb.
+    // Rows 12 to 14, verb by verb. Always in line: the answer that a call hands back is made blank in memory first, for every
+    // command, also for one that an earlier row refuses.
     #[tactic(auto, unfolding(crate::specs::Decisions::reads))]
+    #[inline(always)]
     fn read(self, on: Record, input: usize) -> Result<Action, Refusal>
         ensures { result ≡ reads self.entry.segment.now self.entry.said on.length input }
     {
@@ -107,6 +109,7 @@ impl<'a> Command<'a> {
     }
 
     #[tactic(auto, unfolding(crate::specs::Decisions::writes))]
+    #[inline(always)]
     fn write(self, on: Record, slice: usize, supplied: usize) -> Result<Action, Refusal>
         requires { on.length ≤ slice }
         ensures { result ≡ writes self.entry.segment.now self.entry.said on slice supplied }
@@ -119,6 +122,7 @@ impl<'a> Command<'a> {
     }
 
     #[tactic(auto, unfolding(crate::specs::Decisions::clears))]
+    #[inline(always)]
     fn clear(self, on: Record, slice: usize) -> Result<Action, Refusal>
         requires { on.length ≤ slice }
         ensures { result ≡ clears self.entry.segment.now self.entry.said on slice }
@@ -128,6 +132,7 @@ impl<'a> Command<'a> {
     }
 
     #[tactic(auto, unfolding(crate::specs::Decisions::punches))]
+    #[inline(always)]
     fn punch(self, on: Record) -> Result<Action, Refusal>
         ensures { result ≡ punches self.entry.segment.now self.entry.said on.length }
     {
@@ -139,7 +144,7 @@ impl<'a> Command<'a> {
 }
 
 // Which row refuses the call, the first that does, or what is to be carried out.
-#[tactic(auto, using(crate::proofs::Table::slice_over, crate::proofs::Table::length_over))]
+#[tactic(auto, using(crate::proofs::Table::slice_over, crate::proofs::Table::length_over, crate::proofs::Table::not_let_in_of))]
 pub fn decide(
     cdb: &[u8],
     out: &[u8],

@@ -13,6 +13,7 @@ use borrow.Author.Tests.{eqb-true, ne_eqb, le-ltb, ltb-false, not-false}
 use Rattle.std.specs.Option.{ok_or}
 use Rattle.rules.specs.declared.Fault.{Fault}
 use Rattle.rules.specs.declared.Found.{Found}
+use Rattle.rules.specs.declared.Record.{Record}
 use Rattle.rules.specs.declared.Refusal.{Refusal}
 use Rattle.rules.specs.declared.Refusal.TheVariants.{CdbMalformed, ActionUnknown, OtherObject, ContinuationLength, SegmentHeader, Descriptor, ListForbidden}
 use Rattle.rules.specs.declared.Verb.{Verb}
@@ -28,7 +29,7 @@ use Rattle.rules.proofs.Course.{has_verb}
 use Rattle.rules.proofs.First.{hit, skip, none_left, ahead, behind}
 use Rattle.rules.proofs.Booleans.{or_false_parts}
 use Rattle.header.specs.declared.Parsed.{Parsed}
-use Rattle.header.specs.Reading.{Reading, said_by, settled, front_of, other_than, segment_of, reading_of, Opened}
+use Rattle.header.specs.Reading.{Reading, command, said_by, settled, front_of, other_than, segment_of, reading_of, Opened}
 
 -- ---- an answer, and what it says of the rows that were asked
 
@@ -208,6 +209,11 @@ module _ (c : Command) (p : Parsed) (e : front_of c.cdb ≡ Ok p) where
     pub length_refused : t ≡ true → Err ContinuationLength ≡ segment_of c
     unfolding segment_rows
     length_refused h = segment_refused c ContinuationLength (hit _ _ (row5 ∙ h))
+
+-- `no_segment`, of a command by its parts
+pub without_segment : (cdb out : Bytes) (on : Record) (p : Parsed) → front_of cdb ≡ Ok p → p.segment ≡ 0
+    → Ok p ≡ segment_of (command cdb out on)
+without_segment cdb out on p e z = no_segment (command cdb out on) p e z
 
 -- rows 6 to 8, of a command with a segment
 module _ (c : Command) (p : Parsed) (o : Opened c.cdb c.out p) where

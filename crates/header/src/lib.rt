@@ -35,6 +35,7 @@ fn is_malformed(cdb: &[u8]) -> bool
 }
 
 // What a CDB says, before a segment is looked at.
+#[tactic(auto, using(crate::proofs::Rows::said_read))]
 fn said_by(cdb: &[u8], verb: Verb) -> Parsed
     requires { length cdb.now ≡ 236 }
     ensures { result ≡ said_by verb cdb.now nothing }
@@ -111,6 +112,7 @@ fn read_descriptors(cdb: &[u8], out: &[u8], said: Parsed) -> Result<Parsed, Refu
 }
 
 // Rows 5 to 8, of a CDB that says so much by itself, and of Data-Out. Whose object it is doesn't matter.
+#[tactic(auto, using(crate::proofs::Rows::without_segment))]
 pub fn read_segment(cdb: &[u8], out: &[u8], said: Parsed) -> Result<Parsed, Refusal>
     requires { front_of cdb.now ≡ Ok said }
     ensures { (on : Record) → result ≡ segment_of (command cdb.now out.now on) }

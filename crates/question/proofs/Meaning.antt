@@ -1,6 +1,5 @@
 -- What the search finds is what the book says of the command that was read.
 use Rattle.std.specs.Prelude.{Result, Ok, Err, Option, None, Some}
-use Rattle.std.specs.Result.{result_ok}
 use Rattle.rules.specs.declared.Part.{Part}
 use Prim.Native.Nat.{ℕ, zero, suc, ◌+◌, ◌*◌, ◌/◌, ◌≤◌}
 use mathlib.Core.Path.{◌≡◌, refl, ap, sym, ◌∙◌}
@@ -72,23 +71,7 @@ pub refuses_question : (c : Command) (w : Refusal) (g : Range) → first_of (hea
 unfolding question readable
 refuses_question c w g e = rw e
 
--- ---- over the answer of the reading, asked by `ok`
-module _ (c : Command) (r : Result Parsed Refusal) (e : r ≡ reading_of c) where
-  pub reading_said : (p : Parsed) → result_ok r ≡ Some p → reading_of c ≡ Ok p
-  reading_said p = go r e
-    where
-      go : (x : Result Parsed Refusal) → x ≡ reading_of c → result_ok x ≡ Some p → reading_of c ≡ Ok p
-      go (Ok q) h k = let z : q ≡ p = cc in sym h ∙ ap Ok z
-      go (Err u) h k = let z : ◌≡◌ {A = ℕ} 0 1 = cc in absurd (omega arith)
-
-  pub reading_refused : (g : Range) → result_ok r ≡ None → None ≡ place_of (question c g)
-  reading_refused g = go r e
-    where
-      go : (x : Result Parsed Refusal) → x ≡ reading_of c → result_ok x ≡ None → None ≡ place_of (question c g)
-      go (Ok q) h k = let z : ◌≡◌ {A = ℕ} 0 1 = cc in absurd (omega arith)
-      go (Err u) h k = refuses_question c u g (unreadable c u (sym h))
-
--- ---- and the part of Data-Out that the code takes for the segment
+-- ---- over the answer of the reading, and the part of Data-Out that the code takes for the segment
 module _ (c : Command) (p : Parsed) (e : reading_of c ≡ Ok p) where
   pub part_question : (g : Range) (w : Option Place) → w ≡ first_in c.cdb (take p.segment c.out) p c.on g → w ≡ place_of (question c g)
   part_question g w q = q ∙ ap (λ (s : Bytes). first_in c.cdb s p c.on g) (part_is c p e) ∙ sym (says_question c p (says c p e) g)

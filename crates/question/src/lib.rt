@@ -35,7 +35,9 @@ fn first_extension(segment: &[u8], part: Part, by: Sought, g: Range) -> Option<P
     requires { ExtensionIn segment.now part }
     ensures { result ≡ first_from (admits_in by g) segment.now part }
 {
-    let index = capability::capabilities_in(segment, part)
+    let index = segment[part.at..part.at + part.size]
+        .as_chunks::<104>()
+        .0
         .iter()
         .position(|k| admits(k, by, g))?;
     Some(Place::InOut(part.at + 104 * index))
@@ -58,8 +60,10 @@ fn first_place(cdb: &[u8], segment: &[u8], said: Parsed, on: Record, g: Range) -
 pub fn place_that_admits(cdb: &[u8], out: &[u8], on: Record, g: Range) -> Option<Place>
     ensures { result ≡ place_of (question (command cdb.now out.now on) g) }
 {
-    let said = header::read_command(cdb, out, on).ok()?;
-    first_place(cdb, &out[..said.segment], said, on, g)
+    match header::read_command(cdb, out, on) {
+        Err(_) => None,
+        Ok(said) => first_place(cdb, &out[..said.segment], said, on, g),
+    }
 }
 
 // The same, as the capability's 104 bytes where they stand. The part is empty where none admits the range.

@@ -1,5 +1,5 @@
 -- Whether bytes are blank, asked of each of them.
-use Rattle.std.proofs.Common.{◌≡◌, refl, ap, ◌∙◌, ℕ, ◌-◌, ◌&&◌, eqb, length, take, drop, [], ◌∷◌}
+use Rattle.std.proofs.Common.{◌≡◌, refl, ap, ◌∙◌, ℕ, ◌-◌, ◌≤◌, ◌&&◌, eqb, length, take, drop, [], ◌∷◌}
 use native.Mathlib.Omega.{arith}
 use lib.ListN.{length-drop}
 use lib.Seq.{take_all}
@@ -11,7 +11,7 @@ unfolding blank
 all_blank [] = refl
 all_blank (b ∷ s) = ap (λ r. eqb b 0 && r) (all_blank s)
 
--- the bytes from a position on
-pub left_blank : (s : Bytes) (at : ℕ) → list_all (λ (b : ℕ). eqb b 0) (take (length s - at) (drop at s)) ≡ blank (drop at s)
-left_blank s at =
-    ap (list_all (λ (b : ℕ). eqb b 0)) (take_all _ (drop at s) (omega (arith, length-drop at s))) ∙ all_blank (drop at s)
+-- the bytes from a position on, as many as there are or more
+pub left_blank : (s : Bytes) (at k : ℕ) → length s - at ≤ k → list_all (λ (b : ℕ). eqb b 0) (take k (drop at s)) ≡ blank (drop at s)
+left_blank s at k h =
+    ap (list_all (λ (b : ℕ). eqb b 0)) (take_all k (drop at s) (omega (arith, h, length-drop at s))) ∙ all_blank (drop at s)

@@ -6,5 +6,5 @@ use Rattle.admission.proofs.all_inside.Goals as goal
 
 pub returns-in-Some : goal.returns-in-Some
 returns-in-Some c =
-    let e = all_left (inside_one c.args.allowances.now) c.entries_in.ensures _ _ _ (λ x b q k. search (rules, tests)) c.all.ensures.ran in
+    let e = all_left (inside_one c.args.allowances.now) c.entries_in.ensures.entries _ _ _ (λ x b q k. search (rules, tests)) c.all.ensures.ran in
     rw c.in-Some.is e

@@ -1,30 +1,31 @@
-use Rattle.std.proofs.Common.{rules, sym, ◌∙◌}
+use Rattle.std.proofs.Common.{◌≡◌, true, rules, sym, ◌∙◌}
 use Rattle.header.specs.Reading.{command}
 use Rattle.segment.proofs.Lying.{lies}
 use Rattle.decision.specs.Decisions.{room, Open, LetIn}
 use Rattle.decision.proofs.Table.{object_fits, not_readable, part_ends, part_lists, held, start_refused, starts_right, list_refused}
-use Rattle.decision.proofs.Table.{not_let_in, let_in, part_reads, part_writes, part_clears, part_punches}
+use Rattle.decision.proofs.Table.{let_in, part_reads, part_writes, part_clears, part_punches}
 use Rattle.decision.proofs.decide.Goals as goal
-use Rattle.decision.proofs.decide.Goals.{In_ok-said, Else-not-is_admitted}
+use Rattle.decision.proofs.decide.Goals.{In_ok-said, After-is_admitted}
 
 -- the object fits, and the command was read
 opened : (c : In_ok-said) → Open (command c.args.cdb.now c.args.out.now c.args.on) (room c.args.slice c.args.input) c.in_ok-said.said
 opened c =
     record {
-      object = object_fits _ _ c.if-slice-gt16777216.false c.if-slice-on.false;
+      object = object_fits _ _ (search rules) c.if-slice-on.false;
       reading = sym c.read_command.ensures ∙ c.in_ok-said.was;
     }
 
 -- and it is let in
-admitted : (c : Else-not-is_admitted) → Open (command c.args.cdb.now c.args.out.now c.args.on) (room c.args.slice c.args.input) c.in_ok-said.said
+admitted : (c : After-is_admitted) → c.is_admitted.result ≡ true
+    → Open (command c.args.cdb.now c.args.out.now c.args.on) (room c.args.slice c.args.input) c.in_ok-said.said
     → LetIn (command c.args.cdb.now c.args.out.now c.args.on) (room c.args.slice c.args.input) c.in_ok-said.said
-admitted c o =
+admitted c a o =
     let_in _ _ _ o (starts_right _ _ _ o _ c.has_wrong_start.ensures c.if-has_wrong_start.false) _ c.has_fault.ensures c.if-has_fault.false
-    _ c.is_admitted.ensures (search rules)
+    _ c.is_admitted.ensures a
 
 pub returns-in_err-said : goal.returns-in_err-said
 returns-in_err-said c =
-    not_readable _ _ _ (object_fits _ _ c.if-slice-gt16777216.false c.if-slice-on.false) (sym c.read_command.ensures ∙ c.in_err-said.was)
+    not_readable _ _ _ (object_fits _ _ (search rules) c.if-slice-on.false) (sym c.read_command.ensures ∙ c.in_err-said.was)
     _ (search rules)
 
 pub returns-then-has_wrong_start : goal.returns-then-has_wrong_start
@@ -42,12 +43,6 @@ returns-then-has_fault c =
     let o = opened (goal.at.returns-then-has_fault c).In_ok-said in
     list_refused _ _ _ o (starts_right _ _ _ o _ c.has_wrong_start.ensures c.if-has_wrong_start.false) _ c.has_fault.ensures c.if-has_fault.true
 
-pub returns-then-not-is_admitted : goal.returns-then-not-is_admitted
-returns-then-not-is_admitted c =
-    let o = opened (goal.at.returns-then-not-is_admitted c).In_ok-said in
-    not_let_in _ _ _ o (starts_right _ _ _ o _ c.has_wrong_start.ensures c.if-has_wrong_start.false) _ c.has_fault.ensures c.if-has_fault.false
-    _ c.is_admitted.ensures (search rules)
-
 pub write-requires : goal.write-requires
 write-requires c = held _ _ _ (opened (goal.at.write-requires c).In_ok-said)
 
@@ -57,19 +52,19 @@ clear-requires c = held _ _ _ (opened (goal.at.clear-requires c).In_ok-said)
 pub returns-in-Read : goal.returns-in-Read
 returns-in-Read c =
     let at = goal.at.returns-in-Read c in
-    part_reads _ _ _ (admitted at.Else-not-is_admitted (opened at.In_ok-said)) c.in-Read.is _ c.read.ensures
+    part_reads _ _ _ (admitted at.After-is_admitted (search rules) (opened at.In_ok-said)) c.in-Read.is _ c.read.ensures
 
 pub returns-in-Write : goal.returns-in-Write
 returns-in-Write c =
     let at = goal.at.returns-in-Write c in
-    part_writes _ _ _ (admitted at.Else-not-is_admitted (opened at.In_ok-said)) c.in-Write.is _ c.write.ensures
+    part_writes _ _ _ (admitted at.After-is_admitted (search rules) (opened at.In_ok-said)) c.in-Write.is _ c.write.ensures
 
 pub returns-in-Clear : goal.returns-in-Clear
 returns-in-Clear c =
     let at = goal.at.returns-in-Clear c in
-    part_clears _ _ _ (admitted at.Else-not-is_admitted (opened at.In_ok-said)) c.in-Clear.is _ c.clear.ensures
+    part_clears _ _ _ (admitted at.After-is_admitted (search rules) (opened at.In_ok-said)) c.in-Clear.is _ c.clear.ensures
 
 pub returns-in-Punch : goal.returns-in-Punch
 returns-in-Punch c =
     let at = goal.at.returns-in-Punch c in
-    part_punches _ _ _ (admitted at.Else-not-is_admitted (opened at.In_ok-said)) c.in-Punch.is _ c.punch.ensures
+    part_punches _ _ _ (admitted at.After-is_admitted (search rules) (opened at.In_ok-said)) c.in-Punch.is _ c.punch.ensures

@@ -8,7 +8,7 @@ pub loop-i-init-derived : goal.loop-i-init-derived
 loop-i-init-derived c =
     let i = c.into_iter-i-iterator.ensures.into_iter_gives in
     let e = c.enumerate-i-items.ensures in
-    ((tt, tt, inl (rw (i, e.source, e.count, c.entries_in.ensures, entries_count) (omega (arith, c.requires.few)))), tt)
+    ((tt, tt, inl (rw (i, e.source, e.count, c.entries_in.ensures.entries, entries_count) (omega (arith, c.requires.few)))), tt)
 
 pub loop-i-preserved : goal.loop-i-preserved
 loop-i-preserved c =

@@ -6,4 +6,4 @@ use Rattle.ranges.proofs.starts_beyond_in.Goals as goal
 
 pub returns : goal.returns
 unfolding beyond_in
-returns c = any_left _ c.entries_in.ensures _ _ _ (λ x b q k. search (rules, tests)) c.any.ensures.ran
+returns c = any_left _ c.entries_in.ensures.entries _ _ _ (λ x b q k. search (rules, tests)) c.any.ensures.ran

@@ -17,7 +17,7 @@ returns-in_err-judge-in-65518 c =
     _ _ c.in_err-judge-in-65518.was (search rules))
 
 pub returns-then-is_blank : goal.returns-then-is_blank
-returns-then-is_blank c = blank_end _ _ (omega arith) (c.if-is_blank.ensures ∙ left_blank c.args.s.now c.args.at)
+returns-then-is_blank c = blank_end _ _ (omega arith) (c.if-is_blank.ensures ∙ left_blank c.args.s.now c.args.at _ (omega arith))
 
 pub returns-then-s-at-lt8 : goal.returns-then-s-at-lt8
-returns-then-s-at-lt8 c = remainder _ _ (omega arith) (c.if-is_blank.ensures ∙ left_blank c.args.s.now c.args.at)
+returns-then-s-at-lt8 c = remainder _ _ (omega arith) (c.if-is_blank.ensures ∙ left_blank c.args.s.now c.args.at _ (omega arith))
