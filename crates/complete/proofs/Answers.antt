@@ -11,11 +11,14 @@ use Rattle.rules.specs.Answer.{Answered}
 use Rattle.rules.specs.Writer.{Written}
 use Rattle.std.specs.Prelude.{ℕ, List, [], ◌∷◌, Option, None, Some, Result, Ok, Err}
 use Rattle.std.specs.Option.{MatchOption}
+use Rattle.std.specs.Result.{IsOk}
+use Rattle.std.specs.Fmt.{IsPlainFormatter, HasWritten}
 use Rattle.writer.specs.declared.Unwritten.{Unwritten}
 use Rattle.writer.specs.declared.Unwritten.TheVariants.{NotACommand, BuffersShort}
 use Rattle.segment.specs.Left.{entries_left}
 use Rattle.writer.specs.Post.{number_of, size_of}
 use Rattle.holmweder.specs.Face.{Seen}
+use Rattle.callfile.specs.Told.{line_text}
 use Rattle.rules.proofs.Record.with_length.Reads as with_length
 use Rattle.rules.proofs.Record.shortened.Reads as shortened
 use Rattle.rules.proofs.VerbTryFromU64.try_from.Reads as try_from
@@ -84,6 +87,7 @@ use Rattle.callfile.proofs.layout_of.Reads as layout_of
 use Rattle.callfile.proofs.record_of.Reads as record_of
 use Rattle.callfile.proofs.line_of.Reads as line_of
 use Rattle.callfile.proofs.code_text.Reads as code_text
+use Rattle.callfile.proofs.LineDisplay.fmt.Reads as fmt
 
 -- two answers that a promise P allows
 abbrev One : {K : Type 0} {A R S : K → Type 0} → ((κs : K) → A κs → R κs → S κs → Type 0) → Type 0
@@ -406,3 +410,10 @@ one_line_of κs a r r' s s' e f = e ∙ sym f
 
 one_code_text : One code_text.Post
 one_code_text κs a r r' s s' e f = e ∙ sym f
+
+-- two calls whose text the writer takes, which isn't the formatter's to say, write the same text
+one_fmt : (κs : _) (t : _) (u : _) (v : _) (w : _) (a : _) (r r' : _) (s s' : _)
+    → fmt.Post κs t u v w a r s → fmt.Post κs t u v w a r' s'
+    → IsPlainFormatter a.1.0.now → IsOk r → IsOk r'
+    → (text : Bytes) × HasWritten u.write_str_gives a.1.0.now text s.1.0.now × HasWritten u.write_str_gives a.1.0.now text s'.1.0.now
+one_fmt κs t u v w a r r' s s' e f plain ok ok' = (line_text a.0.now, e.0 plain ok, f.0 plain ok')
