@@ -15,7 +15,7 @@ use Rattle.std.specs.Result.{IsOk}
 use Rattle.std.specs.Fmt.{IsPlainFormatter, HasWritten}
 use Rattle.writer.specs.declared.Unwritten.{Unwritten}
 use Rattle.writer.specs.declared.Unwritten.TheVariants.{NotACommand, BuffersShort}
-use Rattle.segment.specs.Left.{entries_left}
+use Rattle.segment.specs.Left.{bytes_left, entries_left}
 use Rattle.writer.specs.Post.{number_of, size_of}
 use Rattle.holmweder.specs.Face.{Seen}
 use Rattle.callfile.specs.Told.{line_text}
@@ -172,36 +172,29 @@ one_walk_over κs a r r' s s' e f = e ∙ sym f
 -- its bytes, the place where they stand, and so the entries that it gives
 one_entries_in : (κs : _) (a : _) (r r' : _) (s s' : _)
     → entries_in.Post κs a r s → entries_in.Post κs a r' s'
-    → (r.rest.now ≡ r'.rest.now)
-    × (r.rest.ref_ptr ≡ r'.rest.ref_ptr)
+    → ((bytes_left r).now ≡ (bytes_left r').now)
+    × ((bytes_left r).ref_ptr ≡ (bytes_left r').ref_ptr)
     × (entries_left r ≡ entries_left r')
 one_entries_in κs a r r' s s' e f = (e.0.bytes ∙ sym f.0.bytes, e.0.place ∙ sym f.0.place, e.1 ∙ sym f.1)
 
 -- what is given is the first of what was left, and what is left are the others; or nothing of nothing
-head_of : List Range → Option Range
-head_of [] = None
-head_of (g ∷ gs) = Some g
+split : List Range → Option Range × List Range
+split [] = (None, [])
+split (g ∷ gs) = (Some g, gs)
 
-first_given : (r : Option Range) (gs more : List Range) → MatchOption r ((gs ≡ []) × (more ≡ [])) (λ g. gs ≡ g ∷ more) → r ≡ head_of gs
-unfolding head_of
-first_given None gs more e = sym (ap head_of e.0)
-first_given (Some g) gs more e = sym (ap head_of e)
-
-more_of : List Range → List Range
-more_of [] = []
-more_of (g ∷ gs) = gs
-
-more_given : (r : Option Range) (gs more : List Range) → MatchOption r ((gs ≡ []) × (more ≡ [])) (λ g. gs ≡ g ∷ more) → more ≡ more_of gs
-unfolding more_of
-more_given None gs more e = e.1 ∙ sym (ap more_of e.0)
-more_given (Some g) gs more e = sym (ap more_of e)
+given : (r : Option Range) (gs more : List Range) → MatchOption r ((gs ≡ []) × (more ≡ [])) (λ g. gs ≡ g ∷ more)
+    → split gs ≡ (r, more)
+unfolding split
+given None gs more e = rw (e.0, e.1)
+given (Some g) gs more e = rw e
 
 one_next : (κs : _) (a : _) (r r' : _) (s s' : _)
     → next.Post κs a r s → next.Post κs a r' s'
     → (r ≡ r')
     × (entries_left s.0.now ≡ entries_left s'.0.now)
 one_next κs a r r' s s' e f =
-    (first_given r _ _ e.0 ∙ sym (first_given r' _ _ f.0), more_given r _ _ e.0 ∙ sym (more_given r' _ _ f.0))
+    let w = sym (given r _ _ e.0) ∙ given r' _ _ f.0 in
+    (ap (λ (x : Option Range × List Range). x.0) w, ap (λ (x : Option Range × List Range). x.1) w)
 
 -- ---- `reader`: the reader
 one_nth_of : One nth_of.Post

@@ -7,7 +7,11 @@ use Rattle.rules.specs.Bytes.{part}
 use Rattle.rules.specs.Segment.{entries_from}
 use Rattle.segment.specs.declared.ListEntries.{ListEntries}
 
--- the entries that its bytes hold, from the first on
+-- its bytes: those of the entries that it has not given yet, and whatever stands behind them
+abbrev pub bytes_left : ListEntries → Bor (List ℕ)
+bytes_left e = e.rest
+
+-- the entries that they hold, from the first on
 unfoldable pub entries_left : ListEntries → List Range
 entries_left e = entries_from (length e.rest.now / 16) e.rest.now 0
 

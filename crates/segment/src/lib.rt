@@ -10,7 +10,7 @@ ghost use Rattle.rules.specs.Tests.{first_of};
 ghost use Rattle.rules.specs.Segment.{size_at, data_at, faults, here, entry_at, entries_from, walk};
 ghost use Rattle.segment.specs.Verdict.{judged};
 ghost use Rattle.segment.specs.Step.{start, stepped};
-ghost use Rattle.segment.specs.Left.{entries_left, IsPart};
+ghost use Rattle.segment.specs.Left.{bytes_left, entries_left, IsPart};
 
 use rules::{Cause, Fault, Found, Here, Part, Range};
 use std::ops::ControlFlow;
@@ -186,7 +186,7 @@ impl<'a> Iterator for ListEntries<'a> {
 #[tactic(auto, using(crate::proofs::Left::left_in))]
 pub fn entries_in<'a>(s: &'a [u8], part: Part) -> ListEntries<'a>
     requires { part.at + part.size ≤ length s.now }
-    ensures bytes { IsPart part s.entry result.rest }
+    ensures bytes { IsPart part s.entry (bytes_left result) }
     ensures entries { entries_left result ≡ entries_from (part.size / 16) s.now part.at }
 {
     ListEntries {
