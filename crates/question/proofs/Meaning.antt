@@ -1,5 +1,6 @@
 -- What the search finds is what the book says of the command that was read.
 use Rattle.std.specs.Prelude.{Result, Ok, Err, Option, None, Some}
+use Rattle.std.specs.Result.{result_ok}
 use Rattle.rules.specs.declared.Part.{Part}
 use Prim.Native.Nat.{ℕ, zero, suc, ◌+◌, ◌*◌, ◌/◌, ◌≤◌}
 use mathlib.Core.Path.{◌≡◌, refl, ap, sym, ◌∙◌}
@@ -18,11 +19,12 @@ use Rattle.rules.specs.Reading.{Held, found, solo, extension, extensions_of, cap
 use Rattle.rules.specs.Header.{header, readable}
 use Rattle.rules.specs.Admission.{admits, admitting, admitting_for, question}
 use Rattle.header.specs.declared.Parsed.{Parsed}
-use Rattle.header.specs.Reading.{said_by, reading_of}
+use Rattle.rules.specs.declared.Record.{Record}
+use Rattle.header.specs.Reading.{said_by, command, reading_of}
 use Rattle.header.proofs.Rows.{Says, says, unreadable}
 use Rattle.segment.specs.Lying.{ExtensionAt}
-use Rattle.capability.specs.Sought.{sought_by, admits_in}
-use Rattle.capability.proofs.Meaning.{said_in, sought_in, admits_is, first_by, says_reads, part_is}
+use Rattle.capability.specs.Sought.{Reads, sought_by, admits_in}
+use Rattle.capability.proofs.Meaning.{said_in, sought_in, admits_is, first_by, says_reads, part_is, part_ends, part_reads}
 use Rattle.question.specs.declared.Place.{Place}
 use Rattle.question.specs.declared.Place.TheVariants.{InCdb, InOut}
 use Rattle.question.specs.Places.{place_of, first_at, first_from, first_spot, first_in}
@@ -71,10 +73,44 @@ pub refuses_question : (c : Command) (w : Refusal) (g : Range) → first_of (hea
 unfolding question readable
 refuses_question c w g e = rw e
 
--- ---- over the answer of the reading, and the part of Data-Out that the code takes for the segment
+-- ---- over the answer of the reading, asked by `ok`
+module _ (c : Command) (r : Result Parsed Refusal) (e : r ≡ reading_of c) where
+  pub reading_said : (p : Parsed) → result_ok r ≡ Some p → reading_of c ≡ Ok p
+  reading_said p = go r e
+    where
+      go : (x : Result Parsed Refusal) → x ≡ reading_of c → result_ok x ≡ Some p → reading_of c ≡ Ok p
+      go (Ok q) h k = let z : q ≡ p = cc in sym h ∙ ap Ok z
+      go (Err u) h k = let z : ◌≡◌ {A = ℕ} 0 1 = cc in absurd (omega arith)
+
+  pub reading_refused : (g : Range) → result_ok r ≡ None → None ≡ place_of (question c g)
+  reading_refused g = go r e
+    where
+      go : (x : Result Parsed Refusal) → x ≡ reading_of c → result_ok x ≡ None → None ≡ place_of (question c g)
+      go (Ok q) h k = let z : ◌≡◌ {A = ℕ} 0 1 = cc in absurd (omega arith)
+      go (Err u) h k = refuses_question c u g (unreadable c u (sym h))
+
+-- ---- and the part of Data-Out that the code takes for the segment
 module _ (c : Command) (p : Parsed) (e : reading_of c ≡ Ok p) where
   pub part_question : (g : Range) (w : Option Place) → w ≡ first_in c.cdb (take p.segment c.out) p c.on g → w ≡ place_of (question c g)
   part_question g w q = q ∙ ap (λ (s : Bytes). first_in c.cdb s p c.on g) (part_is c p e) ∙ sym (says_question c p (says c p e) g)
+
+-- ---- both together, of what the code is handed
+module _ (cdb out : Bytes) (on : Record) (r : Result Parsed Refusal) (p : Parsed)
+    (e : r ≡ reading_of (command cdb out on)) (is : result_ok r ≡ Some p) where
+  was : reading_of (command cdb out on) ≡ Ok p
+  was = reading_said (command cdb out on) r e p is
+
+  pub segment_fits : p.segment ≡ length (take p.segment out)
+  segment_fits = let l = part_ends (command cdb out on) p was in simp length-take (omega arith)
+
+  pub segment_reads : Reads cdb (take p.segment out) p
+  segment_reads = part_reads (command cdb out on) p was
+
+  pub place_asked : (g : Range) (w : Option Place) → w ≡ first_in cdb (take p.segment out) p on g → w ≡ place_of (question (command cdb out on) g)
+  place_asked = part_question (command cdb out on) p was
+
+-- what `question::place_that_admits` meets its contract by
+pub ruleset asking = (reading_refused, segment_fits, segment_reads, place_asked)
 
 -- ---- where a capability is handed back from, there are 104 bytes
 

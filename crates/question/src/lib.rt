@@ -57,13 +57,12 @@ fn first_place(cdb: &[u8], segment: &[u8], said: Parsed, on: Record, g: Range) -
 }
 
 // The admission question, for any range: where the first capability stands that admits it.
+#[tactic(auto, using(crate::proofs::Meaning::asking))]
 pub fn place_that_admits(cdb: &[u8], out: &[u8], on: Record, g: Range) -> Option<Place>
     ensures { result ≡ place_of (question (command cdb.now out.now on) g) }
 {
-    match header::read_command(cdb, out, on) {
-        Err(_) => None,
-        Ok(said) => first_place(cdb, &out[..said.segment], said, on, g),
-    }
+    let said = header::read_command(cdb, out, on).ok()?;
+    first_place(cdb, &out[..said.segment], said, on, g)
 }
 
 // The same, as the capability's 104 bytes where they stand. The part is empty where none admits the range.
