@@ -9,6 +9,7 @@ use mathlib.Core.List.{List, [], ◌∷◌, map}
 use native.Mathlib.Omega.{arith}
 use lib.ListN.{length, take, length-take}
 use Rattle.rules.specs.declared.Range.{Range}
+use Rattle.rules.specs.declared.Record.{Record}
 use Rattle.rules.specs.declared.Refusal.{Refusal}
 use Rattle.rules.specs.declared.Verb.{Verb}
 use Rattle.rules.specs.Bytes.{Bytes, part}
@@ -19,7 +20,6 @@ use Rattle.rules.specs.Reading.{Held, found, solo, extension, extensions_of, cap
 use Rattle.rules.specs.Header.{header, readable}
 use Rattle.rules.specs.Admission.{admits, admitting, admitting_for, question}
 use Rattle.header.specs.declared.Parsed.{Parsed}
-use Rattle.rules.specs.declared.Record.{Record}
 use Rattle.header.specs.Reading.{said_by, command, reading_of}
 use Rattle.header.proofs.Rows.{Says, says, unreadable}
 use Rattle.segment.specs.Lying.{ExtensionAt}

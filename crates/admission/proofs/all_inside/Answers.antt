@@ -7,6 +7,7 @@ use Rattle.segment.proofs.Runs.{all_left}
 use Rattle.admission.specs.Allowed.{inside_one}
 use Rattle.admission.proofs.all_inside.Goals as goal
 
+-- that as many entries were asked as the list has is shown by itself: a wrong count fails there
 pub returns-in-Some : goal.returns-in-Some
 returns-in-Some c =
     let e = all_left (inside_one c.args.allowances.now) c.entries_in.ensures.entries _ _ _ (λ x b q k. search (rules, tests)) c.all.ensures.ran in
